@@ -1,0 +1,4 @@
+pub mod Models
+pub mod Cells
+pub mod Queues
+pub mod Pairs
