@@ -45,11 +45,13 @@ abbrev pub chargeWithin : Rule → ℕ → List AdoptedTask → ℕ → ℕ → 
 chargeWithin rule attempt tasks rank t =
     sumBelow (length tasks) (λ a. chargeShare rule attempt rank t (getD tasks a noAdoptedTask))
 
+-- what the tasks ranked up to a rank can ask for within t ticks
+abbrev pub demandUpToRank : ℕ → List AdoptedTask → ℕ → ℕ → ℕ
+demandUpToRank attempt tasks rank t = workWithin RateMonotonic tasks rank t + chargeWithin RateMonotonic attempt tasks rank t
+
 -- what the task at a place and those ranked before it can ask for within t ticks
 abbrev pub demandByRank : ℕ → List AdoptedTask → ℕ → ℕ → ℕ
-demandByRank attempt tasks place t =
-    let rank = getD tasks place noAdoptedTask .rank in
-    workWithin RateMonotonic tasks rank t + chargeWithin RateMonotonic attempt tasks rank t
+demandByRank attempt tasks place t = demandUpToRank attempt tasks (getD tasks place noAdoptedTask .rank) t
 
 -- what the jobs released and due within t ticks can ask for
 abbrev pub demandByDeadline : ℕ → List AdoptedTask → ℕ → ℕ

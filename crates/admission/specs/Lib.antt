@@ -2,6 +2,10 @@ pub mod Refusals
 pub mod Search
 pub mod Lengths
 pub mod Tables
+pub mod Limits
 pub mod Demand
 pub mod Tests
+pub mod Multiples
 pub mod Verdicts
+pub mod Passing
+pub mod Laws

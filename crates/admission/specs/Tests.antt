@@ -1,5 +1,6 @@
 -- When a table keeps its deadlines: the inequalities of the three rules, and what names a table that fails.
-use Prim.Native.Nat.{ℕ, zero, suc, _+_, _*_, _/_, _%_, _≤_, _<_}
+use Prim.Native.Nat.{ℕ, zero, suc, _+_, _-_, _*_, _/_, _%_, _≤_, _<_}
+use mathlib.Core.Path.{_≡_}
 use mathlib.Core.List.{List}
 use mathlib.Core.Bool.{Bool, true, not, _&&_}
 use lib.Dec.{eqb, leb, ltb}
@@ -25,6 +26,11 @@ MeetsByRank attempt tasks witnesses =
 abbrev pub MeetsByDeadline : ℕ → List AdoptedTask → Type 0
 MeetsByDeadline attempt tasks = (t : ℕ) → demandByDeadline attempt tasks t ≤ t
 
+-- ranks are below the number of tasks, and no two tasks share one
+pub record Ranked (tasks : List AdoptedTask) : Type 0 where
+  pub below : (place : ℕ) → place < length tasks → getD tasks place noAdoptedTask .rank < length tasks
+  pub apart : (a b : ℕ) → a < length tasks → b < length tasks → getD tasks a noAdoptedTask .rank ≡ getD tasks b noAdoptedTask .rank → a ≡ b
+
 -- the least witness of a task
 abbrev pub leastWitness : ℕ → List AdoptedTask → ℕ → Option ℕ
 leastWitness attempt tasks place =
@@ -47,7 +53,7 @@ abbrev pub commonMultiple : List AdoptedTask → ℕ → Bool
 commonMultiple tasks n = not (someBelow (length tasks) (λ a. not (eqb (n % getD tasks a noAdoptedTask .period) 0)))
 
 -- the hyperperiod is the least common multiple of the periods, if that is at most 1,000,000
-abbrev pub hyperperiodOf : List AdoptedTask → Option ℕ
+unfoldable pub hyperperiodOf : List AdoptedTask → Option ℕ
 hyperperiodOf tasks = leastUpTo 1000000 (commonMultiple tasks)
 
 -- the load of a hyperperiod: each of its jobs at its cost and one attempt more
@@ -59,3 +65,10 @@ loadOf attempt tasks hyperperiod =
 -- the least time up to a hyperperiod within which more is asked for than there is
 abbrev pub leastOverrun : ℕ → List AdoptedTask → ℕ → Option ℕ
 leastOverrun attempt tasks hyperperiod = leastUpTo hyperperiod (λ t. ltb t (demandByDeadline attempt tasks t))
+
+-- between two times the jobs of a task that are due do not change
+abbrev pub Steady : AdoptedTask → ℕ → ℕ → Type 0
+Steady task t until =
+    (u : ℕ) → t ≤ u → u < until
+    → ((u + task .period - task .deadline) / task .period ≡ (t + task .period - task .deadline) / task .period)
+    × ((u + task .period - task .deadline - 1) / task .period ≡ (t + task .period - task .deadline - 1) / task .period)

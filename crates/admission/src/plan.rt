@@ -1,3 +1,5 @@
+ghost use Prim.Native.Nat.{_≤_};
+
 // How the jobs of a table are ordered.
 #[derive(Clone, Copy, PartialEq, Eq)]
 pub enum Rule {
@@ -44,4 +46,5 @@ pub struct AdoptedTask {
 pub struct Plan {
     pub count: usize,
     pub steps: [Step; 8],
+    ghost few: { count ≤ 8 },
 }

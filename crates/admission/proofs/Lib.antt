@@ -1,0 +1,15 @@
+pub mod Parts
+pub mod Questions
+pub mod Bounds
+pub mod Ranges
+pub mod Filling
+pub mod Firsts
+pub mod Monotone
+pub mod Witnesses
+pub mod Divisors
+pub mod Plateaus
+pub mod Loads
+pub mod Rankings
+pub mod Exact
+pub mod Limited
+pub mod Tested

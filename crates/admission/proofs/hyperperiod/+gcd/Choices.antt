@@ -1,0 +1,4 @@
+use Rattle.admission.proofs.hyperperiod.+gcd.Given as given
+
+abbrev pub μ-gcd : given.MeasureT-gcd
+μ-gcd l = l .b
