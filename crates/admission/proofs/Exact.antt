@@ -94,7 +94,7 @@ module _ (attempt : ℕ) (tasks : List AdoptedTask) where
   witness-held place h =
       let t = valueOr (leastWitness attempt tasks place) 0 in
       let f = first-found (λ u. leb (demandByRank attempt tasks place u) u) 1 (getD tasks place noAdoptedTask .deadline) t (some-from _ 0 (not-false _ h)) in
-      record { positive = f .from; in-time = omega (arith, f .below); enough = leb-true _ t (f .passes) }
+      (f .from, omega (arith, f .below), leb-true _ t (f .passes))
 
   -- a task with a witness is not unmet
   has-witness : (place t : ℕ) → Witnessed attempt tasks place t → unmet attempt tasks place ≡ false
@@ -103,8 +103,8 @@ module _ (attempt : ℕ) (tasks : List AdoptedTask) where
         | inl e ↦ ap not e
         | inr e ↦
             absurd (both-ways (leb (demandByRank attempt tasks place t) t)
-            (first-missing (λ u. leb (demandByRank attempt tasks place u) u) 1 (getD tasks place noAdoptedTask .deadline) (none-from _ e) t (w .positive) (omega (arith, w .in-time)))
-            (le-leb _ t (w .enough)))
+            (first-missing (λ u. leb (demandByRank attempt tasks place u) u) 1 (getD tasks place noAdoptedTask .deadline) (none-from _ e) t (w .0) (omega (arith, w .1)))
+            (le-leb _ t (w .2)))
       ]
 
 pub rank-exact : Test-by-rank-is-exact

@@ -13,3 +13,5 @@ pub mod Rankings
 pub mod Exact
 pub mod Limited
 pub mod Tested
+pub mod Deciding
+pub mod Asking

@@ -110,16 +110,9 @@ adopted-limits rule segments tasks limits place l =
     let n = owned-length segments (getD tasks place noTask) (t .owns-these) in
     let c = cost-limits (owned segments (getD tasks place noTask)) (λ k b. t .each k (omega arith)) in
     subst (λ (x : AdoptedTask). NumberLimits x) (sym (adopted-at rule segments tasks place i))
-    (record {
-      period-some = t .period-some;
-      period-most = t .period-most;
-      deadline-some = t .deadline-some;
-      deadline-most = t .deadline-most;
-      cost-some = omega (arith, c .0, n, t .owns-some);
-      cost-most = omega (arith, c .1, n, t .owns-few);
-    })
+    ((t .period-some, t .period-most), (t .deadline-some, t .deadline-most), (omega (arith, c .0, n, t .owns-some), omega (arith, c .1, n, t .owns-few)))
 
 pub all-lawful : (tasks : List AdoptedTask) → AdoptedLimits tasks → AllLawful tasks
 all-lawful tasks limits place l =
     let t = limits place l in
-    record { period-some = t .period-some; deadline-some = t .deadline-some; deadline-most = t .deadline-most }
+    record { period-some = t .0 .0; deadline-some = t .1 .0; deadline-most = t .1 .1 }

@@ -25,7 +25,7 @@ under false x y h = omega arith
 pub demand-later : (attempt : ℕ) (tasks : List AdoptedTask) (rank t u : ℕ) → AdoptedLimits tasks → t ≤ u → demandUpToRank attempt tasks rank t ≤ demandUpToRank attempt tasks rank u
 demand-later attempt tasks rank t u limits h =
     let w = sum-le (length tasks) (λ a. workByRank rank t (getD tasks a noAdoptedTask)) (λ a. workByRank rank u (getD tasks a noAdoptedTask))
-    (λ a l. under (leb (getD tasks a noAdoptedTask .rank) rank) _ _ (jobs-later _ _ _ _ (limits a l .period-some) (omega arith))) in
+    (λ a l. under (leb (getD tasks a noAdoptedTask .rank) rank) _ _ (jobs-later _ _ _ _ (limits a l .0 .0) (omega arith))) in
     let c = sum-le (length tasks) (λ a. chargeByRank attempt rank t (getD tasks a noAdoptedTask)) (λ a. chargeByRank attempt rank u (getD tasks a noAdoptedTask))
-    (λ a l. under (ltb (getD tasks a noAdoptedTask .rank) rank) _ _ (jobs-later _ _ _ _ (limits a l .period-some) (omega arith))) in
+    (λ a l. under (ltb (getD tasks a noAdoptedTask .rank) rank) _ _ (jobs-later _ _ _ _ (limits a l .0 .0) (omega arith))) in
     omega (arith, w, c)

@@ -32,8 +32,8 @@ module _ (task : AdoptedTask) (limits : NumberLimits task) (t : ℕ) (some : 1 �
       let q = reach t / task .period in
       let r = reach t % task .period in
       let e : reach t ≡ q * task .period + r = sym (div-add-mod' (reach t) (task .period)) in
-      let l : r < task .period = mod-lt (reach t) (limits .period-some) in
-      let p = limits .deadline-most in
+      let l : r < task .period = mod-lt (reach t) (limits .0 .0) in
+      let p = limits .1 .1 in
       let now : reach t - 1 ≡ q * task .period + (r - 1) = omega arith in
       let later : reach u ≡ q * task .period + (r + (u - t)) = omega arith in
       let before : reach u - 1 ≡ q * task .period + (r + (u - t) - 1) = omega arith in (

@@ -8,4 +8,5 @@ pub mod Tests
 pub mod Multiples
 pub mod Verdicts
 pub mod Passing
+pub mod Held
 pub mod Laws

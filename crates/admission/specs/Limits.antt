@@ -36,13 +36,21 @@ abbrev pub AllLawful : List AdoptedTask → Type 0
 AllLawful tasks = (place : ℕ) → place < length tasks → TimesLawful (getD tasks place noAdoptedTask)
 
 -- the numbers that the tests count
-pub record NumberLimits (task : AdoptedTask) : Type 0 where
-  pub period-some : 1 ≤ task .period
-  pub period-most : task .period ≤ 1000000
-  pub deadline-some : 1 ≤ task .deadline
-  pub deadline-most : task .deadline ≤ task .period
-  pub cost-some : 1 ≤ task .cost
-  pub cost-most : task .cost ≤ 800000
+abbrev pub PeriodFits : AdoptedTask → Type 0
+PeriodFits task = (1 ≤ task .period) × (task .period ≤ 1000000)
+
+abbrev pub DeadlineFits : AdoptedTask → Type 0
+DeadlineFits task = (1 ≤ task .deadline) × (task .deadline ≤ task .period)
+
+abbrev pub CostFits : AdoptedTask → Type 0
+CostFits task = (1 ≤ task .cost) × (task .cost ≤ 800000)
+
+abbrev pub NumberLimits : AdoptedTask → Type 0
+NumberLimits task = PeriodFits task × DeadlineFits task × CostFits task
+
+-- a fact of each task of a table
+abbrev pub EachTask : (AdoptedTask → Type 0) → List AdoptedTask → Type 0
+EachTask Fact tasks = (place : ℕ) → place < length tasks → Fact (getD tasks place noAdoptedTask)
 
 abbrev pub AdoptedLimits : List AdoptedTask → Type 0
-AdoptedLimits tasks = (place : ℕ) → place < length tasks → NumberLimits (getD tasks place noAdoptedTask)
+AdoptedLimits tasks = EachTask NumberLimits tasks

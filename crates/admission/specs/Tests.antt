@@ -13,10 +13,9 @@ use Rattle.admission.specs.Tables.{noAdoptedTask}
 use Rattle.admission.specs.Demand.{demandByRank, demandByDeadline}
 
 -- By rank: each task has a time, its witness, up to its deadline, within which all that it can wait for gets done.
-pub record Witnessed (attempt : ℕ) (tasks : List AdoptedTask) (place t : ℕ) : Type 0 where
-  pub positive : 1 ≤ t
-  pub in-time : t ≤ getD tasks place noAdoptedTask .deadline
-  pub enough : demandByRank attempt tasks place t ≤ t
+abbrev pub Witnessed : ℕ → List AdoptedTask → ℕ → ℕ → Type 0
+Witnessed attempt tasks place t =
+    (1 ≤ t) × (t ≤ getD tasks place noAdoptedTask .deadline) × (demandByRank attempt tasks place t ≤ t)
 
 abbrev pub MeetsByRank : ℕ → List AdoptedTask → List ℕ → Type 0
 MeetsByRank attempt tasks witnesses =

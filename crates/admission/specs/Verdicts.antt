@@ -2,7 +2,7 @@
 use Prim.Native.Nat.{ℕ, _+_}
 use mathlib.Core.List.{List, [], _∷_}
 use mathlib.Core.Bool.{Bool, true, false, cond, _&&_, _||_}
-use lib.Dec.{eqb, leb}
+use lib.Dec.{eqb, leb, ltb}
 use lib.ListN.{length, getD}
 use Rattle.std.specs.Options.{mapped, valueOr}
 use Rattle.std.specs.declared.option.Option.{Option}
@@ -16,10 +16,11 @@ use Rattle.admission.specs.declared.plan.Rule.{Rule}
 use Rattle.admission.specs.declared.plan.Rule.the-variants.{RateMonotonic, DeadlineMonotonic, EarliestDeadlineFirst}
 use Rattle.admission.specs.declared.plan.AdoptedTask.{AdoptedTask}
 use Rattle.admission.specs.declared.refusal.Refusal.{Refusal}
-use Rattle.admission.specs.declared.refusal.Refusal.the-variants.{TaskCount, UnknownRule, PeriodOrDeadline, SegmentRange, KindOrSize, AccessObject, LongHyperperiod, Overload, Unschedulable}
+use Rattle.admission.specs.declared.refusal.Refusal.the-variants.{TaskCount, UnknownRule, PeriodOrDeadline, SegmentRange, KindOrSize, AccessObject, LongHyperperiod, Overload, Unschedulable, NoPlace, TimeRange}
 use Rattle.admission.specs.Search.{maxBelow}
 use Rattle.admission.specs.Lengths.{owned, longestAttempt}
 use Rattle.admission.specs.Tables.{Table, listed, noTask, noAdoptedTask, byRank, adoptedTasks, plansOf}
+use Rattle.admission.specs.Demand.{workWithin, chargeWithin}
 use Rattle.admission.specs.Tests.{leastWitness, lowestUnmet, hyperperiodOf, loadOf, leastOverrun}
 
 -- a question: nothing if the answer is yes, else its refusal
@@ -136,19 +137,25 @@ abbrev pub heldAfter : Result Table Refusal → Table → Table
 heldAfter (Ok table) before = table
 heldAfter (Err refusal) before = before
 
--- the caller's list after the call: each record with its rank and witness, or as it was
-abbrev pub stamped : Table → List Task → List Task
-stamped table tasks =
-    listed (length tasks) (λ place.
-    record {
-      period = getD tasks place noTask .period;
-      deadline = getD tasks place noTask .deadline;
-      first = getD tasks place noTask .first;
-      count = getD tasks place noTask .count;
-      rank = getD (table .tasks) place noAdoptedTask .rank;
-      witness = getD (table .witnesses) place 0;
-    })
+-- a record with its rank and witness
+abbrev pub stampOf : ℕ → ℕ → Task → Task
+stampOf rank witness task =
+    record { period = task .period; deadline = task .deadline; first = task .first; count = task .count; rank = rank; witness = witness }
 
+-- each record with the rank and the witness of its place
+abbrev pub stampedBy : List AdoptedTask → List ℕ → List Task → List Task
+stampedBy adopted witnesses tasks =
+    listed (length tasks) (λ place. stampOf (getD adopted place noAdoptedTask .rank) (getD witnesses place 0) (getD tasks place noTask))
+
+-- the caller's list after the call
 abbrev pub listAfter : Result Table Refusal → List Task → List Task
-listAfter (Ok table) tasks = stamped table tasks
+listAfter (Ok table) tasks = stampedBy (table .tasks) (table .witnesses) tasks
 listAfter (Err refusal) tasks = tasks
+
+-- the question demand: the work and the retry charge at a place within t ticks
+abbrev pub demanded : Table → ℕ → ℕ → Result (ℕ × ℕ) Refusal
+demanded table place t =
+    let rank = getD (table .tasks) place noAdoptedTask .rank in
+    unless
+    (firstNo (asked (ltb place (length (table .tasks))) NoPlace) (asked (leb 1 t && leb t 1000000) TimeRange))
+    (workWithin (table .rule) (table .tasks) rank t, chargeWithin (table .rule) (table .attempt) (table .tasks) rank t)

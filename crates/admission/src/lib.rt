@@ -1,4 +1,5 @@
 // Which task tables keep their deadlines, and what is held of a table that is taken.
+pub mod adopt;
 pub mod demand;
 pub mod hyperperiod;
 pub mod law;
@@ -9,6 +10,7 @@ pub mod overrun;
 pub mod plan;
 pub mod rank;
 pub mod refusal;
+pub mod table;
 pub mod task;
 pub mod test;
 pub mod witness;

@@ -11,5 +11,5 @@ pub returns-else-past-eq0 : need.returns-else-past-eq0
 returns-else-past-eq0 c =
     let task = c .args .task .now in
     let limits = c .pre .0 in
-    let l = mod-lt (c .args .t + task .period - task .deadline) (limits .period-some) in
-    record { later = omega arith; near = omega (arith, limits .period-most); steady = steady-between task limits (c .args .t) (omega arith) (omega arith) }
+    let l = mod-lt (c .args .t + task .period - task .deadline) (limits .0 .0) in
+    record { later = omega arith; near = omega (arith, limits .0 .1); steady = steady-between task limits (c .args .t) (omega arith) (omega arith) }
