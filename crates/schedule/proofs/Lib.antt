@@ -1,0 +1,10 @@
+pub mod Sums
+pub mod Releases
+pub mod Moments
+pub mod Levels
+pub mod Ranks
+pub mod Deadlines
+pub mod Tallies
+pub mod Records
+pub mod Proved
+pub mod Examples

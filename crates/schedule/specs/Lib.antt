@@ -1,0 +1,4 @@
+pub mod Batches
+pub mod Jobs
+pub mod Theorems
+pub mod Examples
