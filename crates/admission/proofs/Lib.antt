@@ -15,3 +15,4 @@ pub mod Limited
 pub mod Tested
 pub mod Deciding
 pub mod Asking
+pub mod Looking

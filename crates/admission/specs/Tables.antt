@@ -81,6 +81,10 @@ plansOf segments tasks = map (λ (task : Task). map stepOf (owned segments task)
 abbrev pub stepsIn : Plan → List Step
 stepsIn plan = take (plan .count) (plan .steps)
 
+-- the steps of the jobs of a place
+abbrev pub planAt : List (List Step) → ℕ → List Step
+planAt plans place = getD plans place []
+
 -- a table, as it is held
 pub record Table : Type 0 where
   pub rule : Rule

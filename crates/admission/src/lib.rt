@@ -5,6 +5,7 @@ pub mod hyperperiod;
 pub mod law;
 pub mod length;
 pub mod limit;
+pub mod lookup;
 pub mod measure;
 pub mod overrun;
 pub mod plan;

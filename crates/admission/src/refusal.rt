@@ -2,7 +2,7 @@ ghost use mathlib.Core.Path.{_≡_};
 ghost use Rattle.admission.specs.Refusals.{numbered};
 
 // Why a call is turned down: the first question that was answered "no".
-#[derive(Clone, Copy, PartialEq, Eq)]
+#[derive(Clone, Copy)]
 pub enum Refusal {
     // A batch is open.
     BatchOpen,
@@ -24,8 +24,20 @@ pub enum Refusal {
     Overload,
     // A deadline can be missed: the place of the task, or the least time that fails.
     Unschedulable { at: u32 },
+    // A batch is open already.
+    AlreadyOpen,
+    // No batch is open.
+    NoBatch,
     // There is no such place in the table.
     NoPlace,
+    // The task's period has not gone by since its last release.
+    TooSoon,
+    // The task's last job has not finished.
+    Unfinished,
+    // The clock has come to its end.
+    ClockEnd,
+    // The token is void.
+    VoidToken,
     // The time is not 1 to 1,000,000.
     TimeRange,
     // There is no such object.
@@ -48,7 +60,13 @@ impl Refusal {
             Refusal::LongHyperperiod => 18,
             Refusal::Overload => 19,
             Refusal::Unschedulable { at: _ } => 20,
+            Refusal::AlreadyOpen => 21,
+            Refusal::NoBatch => 31,
             Refusal::NoPlace => 32,
+            Refusal::TooSoon => 33,
+            Refusal::Unfinished => 34,
+            Refusal::ClockEnd => 35,
+            Refusal::VoidToken => 36,
             Refusal::TimeRange => 37,
             Refusal::NoObject => 38,
         }

@@ -1,1 +1,4 @@
+pub mod Events
+pub mod Turns
+pub mod Choices
 pub mod Machines

@@ -1,25 +1,22 @@
 -- The worked examples, one computation each.
-use Prim.Native.Nat.{ℕ, zero, suc, _+_}
 use mathlib.Core.Path.{_≡_}
 use mathlib.Core.Bool.{true, false}
-use mathlib.Core.List.{List, [], _∷_, map}
+use mathlib.Core.List.{[], _∷_, _++_, map}
 use lib.ListN.{getD}
 use Rattle.std.specs.declared.option.Option.the-variants.{Some}
 use Rattle.std.specs.declared.result.Result.the-variants.{Ok, Err}
-use Rattle.shelf.specs.Models.{Model, readingAt, accepts, committed}
-use Rattle.shelf.specs.Cells.{cellModel}
-use Rattle.shelf.specs.Queues.{queueModel}
-use Rattle.admission.specs.declared.task.Segment.{Segment}
+use Rattle.shelf.specs.Models.{readingAt, accepts, committed}
 use Rattle.admission.specs.declared.task.Task.{Task}
 use Rattle.admission.specs.declared.plan.AdoptedTask.{AdoptedTask}
-use Rattle.admission.specs.declared.plan.Rule.the-variants.{RateMonotonic, EarliestDeadlineFirst}
+use Rattle.admission.specs.declared.plan.Rule.the-variants.{RateMonotonic}
 use Rattle.admission.specs.declared.refusal.Refusal.the-variants.{Overload, Unschedulable}
 use Rattle.admission.specs.Lengths.{attemptTicks, longestAttempt}
 use Rattle.admission.specs.Tables.{adoptedTasks}
 use Rattle.admission.specs.Tests.{hyperperiodOf, loadOf}
-use Rattle.controller.specs.Machines.{Machine, newMachine, adopting, adopted, stampedList, demandOf}
+use Rattle.controller.specs.declared.job.Event.the-variants.{Computed, Attempted, Committed, Retried}
+use Rattle.controller.specs.Machines.{adopting, stampedList, opened, releasing, closing, readingOf, demandOf}
 use mathlib.Core.Path.{refl}
-use Rattle.examples.specs.Worked.{segmentsA, tableA, pairDue, compute, start, holdsA, tasksA, afterPuts}
+use Rattle.examples.specs.Worked.{segmentsA, tableA, pairDue, compute, start, holdsA, tasksA, afterPuts, answers, works, ends, runStart, runBefore, runMiddle, runEnd}
 
 pub a-costs : map (λ (x : AdoptedTask). x .cost) (adoptedTasks RateMonotonic segmentsA (tableA 20 15)) ≡ 2 ∷ 3 ∷ []
 unfolding attemptTicks hyperperiodOf
@@ -96,3 +93,21 @@ queue-misses = refl
 pub queue-waits : readingAt (committed (afterPuts 64) 0 64 7) 0 ≡ 64
 unfolding attemptTicks hyperperiodOf
 queue-waits = refl
+
+pub run-deadlines : releasing (opened holdsA) 1 ∷ releasing runBefore 0 ∷ [] ≡ Ok 15 ∷ Ok 7 ∷ []
+unfolding attemptTicks hyperperiodOf
+run-deadlines = refl
+
+pub run-answers :
+    answers 2 runStart ++ answers 5 runMiddle
+    ≡ works 1 Computed ∷ works 1 Attempted ∷ works 0 (Committed 0 1) ∷ ends 0 Computed ∷ works 1 (Retried 0) ∷ works 1 Attempted ∷ ends 1 (Committed 0 11) ∷ []
+unfolding attemptTicks hyperperiodOf
+run-answers = refl
+
+pub run-sums : closing runEnd true ≡ Ok (record { ticks = 7; releases = 2; finished = 2; pending = 0; retries = 1; preemptions = 1 })
+unfolding attemptTicks hyperperiodOf
+run-sums = refl
+
+pub run-reading : readingOf runEnd 0 ≡ Ok 11
+unfolding attemptTicks hyperperiodOf
+run-reading = refl

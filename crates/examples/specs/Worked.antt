@@ -2,9 +2,10 @@
 use Prim.Native.Nat.{ℕ, zero, suc, _+_}
 use mathlib.Core.Path.{_≡_}
 use mathlib.Core.Bool.{true, false}
-use mathlib.Core.List.{List, [], _∷_, map}
+use mathlib.Core.List.{List, [], _∷_, _++_, map}
 use lib.ListN.{getD}
 use Rattle.std.specs.declared.option.Option.the-variants.{Some}
+use Rattle.std.specs.declared.result.Result.{Result}
 use Rattle.std.specs.declared.result.Result.the-variants.{Ok, Err}
 use Rattle.shelf.specs.Models.{Model, readingAt, accepts, committed}
 use Rattle.shelf.specs.Cells.{cellModel}
@@ -13,11 +14,15 @@ use Rattle.admission.specs.declared.task.Segment.{Segment}
 use Rattle.admission.specs.declared.task.Task.{Task}
 use Rattle.admission.specs.declared.plan.AdoptedTask.{AdoptedTask}
 use Rattle.admission.specs.declared.plan.Rule.the-variants.{RateMonotonic, EarliestDeadlineFirst}
+use Rattle.admission.specs.declared.refusal.Refusal.{Refusal}
 use Rattle.admission.specs.declared.refusal.Refusal.the-variants.{Overload, Unschedulable}
 use Rattle.admission.specs.Lengths.{attemptTicks, longestAttempt}
 use Rattle.admission.specs.Tables.{adoptedTasks}
 use Rattle.admission.specs.Tests.{hyperperiodOf, loadOf}
-use Rattle.controller.specs.Machines.{Machine, newMachine, adopting, adopted, stampedList, demandOf}
+use Rattle.controller.specs.declared.job.Event.{Event}
+use Rattle.controller.specs.declared.job.Event.the-variants.{Computed, Attempted, Committed, Retried}
+use Rattle.controller.specs.declared.job.Ticked.{Ticked}
+use Rattle.controller.specs.Machines.{Machine, newMachine, adopting, adopted, stampedList, opened, releasing, released, ticking, ticked, closing, readingOf, demandOf}
 
 -- a task with `count` segments from `first` on
 abbrev pub task : ℕ → ℕ → ℕ → ℕ → Task
@@ -59,6 +64,36 @@ abbrev pub afterPuts : ℕ → Model
 afterPuts zero = queueModel 0 []
 afterPuts (suc n) = committed (afterPuts n) 0 n (n + 1)
 
+-- a machine after some ticks, and what those ticks answer
+abbrev pub after : ℕ → Machine → Machine
+after zero m = m
+after (suc n) m = after n (ticked m)
+
+abbrev pub answers : ℕ → Machine → List (Result Ticked Refusal)
+answers zero m = []
+answers (suc n) m = ticking m ∷ answers n (ticked m)
+
+-- the job of a place worked, and has work left
+abbrev pub works : ℕ → Event → Result Ticked Refusal
+works place event = Ok (record { place = place; event = event; finished = false })
+
+-- the job of a place worked and finished
+abbrev pub ends : ℕ → Event → Result Ticked Refusal
+ends place event = Ok (record { place = place; event = event; finished = true })
+
+-- A run of table A: the second task is released first, two ticks later the first task, and five ticks follow.
+abbrev pub runStart : Machine
+runStart = released (opened holdsA) 1
+
+abbrev pub runBefore : Machine
+runBefore = after 2 runStart
+
+abbrev pub runMiddle : Machine
+runMiddle = released runBefore 0
+
+abbrev pub runEnd : Machine
+runEnd = after 5 runMiddle
+
 pub record Worked-examples : Type 0 where
   pub a-costs : map (λ (x : AdoptedTask). x .cost) (adoptedTasks RateMonotonic segmentsA (tableA 20 15)) ≡ 2 ∷ 3 ∷ []
   pub a-attempt : longestAttempt segmentsA (tableA 20 15) ≡ 2
@@ -84,3 +119,10 @@ pub record Worked-examples : Type 0 where
   pub queue-accepts : accepts (afterPuts 64) 0 64 ≡ true
   pub queue-misses : getD (committed (afterPuts 64) 0 64 7 .contents 0) 0 0 ≡ 1
   pub queue-waits : readingAt (committed (afterPuts 64) 0 64 7) 0 ≡ 64
+  -- the run of table A: the second task loses an attempt to the first, which preempts it
+  pub run-deadlines : releasing (opened holdsA) 1 ∷ releasing runBefore 0 ∷ [] ≡ Ok 15 ∷ Ok 7 ∷ []
+  pub run-answers :
+      answers 2 runStart ++ answers 5 runMiddle
+      ≡ works 1 Computed ∷ works 1 Attempted ∷ works 0 (Committed 0 1) ∷ ends 0 Computed ∷ works 1 (Retried 0) ∷ works 1 Attempted ∷ ends 1 (Committed 0 11) ∷ []
+  pub run-sums : closing runEnd true ≡ Ok (record { ticks = 7; releases = 2; finished = 2; pending = 0; retries = 1; preemptions = 1 })
+  pub run-reading : readingOf runEnd 0 ≡ Ok 11

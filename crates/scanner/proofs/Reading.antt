@@ -9,7 +9,7 @@ use Rattle.std.specs.Words.{white, dark, Without, Opens}
 use Rattle.std.specs.declared.option.Option.{Option}
 use Rattle.std.specs.declared.option.Option.the-variants.{Some, None}
 use Rattle.std.specs.declared.result.Result.the-variants.{Ok, Err}
-use Rattle.scanner.specs.Lines.{Uncommented, none, one, two, three, four, spelled, arityOf, lineOf}
+use Rattle.scanner.specs.Lines.{Uncommented, none, one, oneOr, two, three, four, spelled, arityOf, lineOf}
 use Rattle.scanner.specs.Parsing.{First, Reads, Misread, ReadUpTo, Numbered, Verbed, BadNumber, WrongAfter, Wrong, Parsed}
 use Rattle.scanner.specs.declared.script.Line.{Line}
 use Rattle.scanner.specs.declared.script.LineError.{LineError}
@@ -55,6 +55,10 @@ one-short : (ns : List ℕ) (f : ℕ → Line) → one ns f ≡ None → length 
 one-short [] f e h = omega arith
 one-short (n ∷ ns) f e h = omega (arith, none-short ns (f n) e (omega arith))
 
+oneOr-short : (ns : List ℕ) (absent : ℕ) (f : ℕ → Line) → oneOr ns absent f ≡ None → length ns ≤ 1 → length ns < 1
+oneOr-short [] absent f e h = omega arith
+oneOr-short (n ∷ ns) absent f e h = omega (arith, none-short ns (f n) e (omega arith))
+
 two-short : (ns : List ℕ) (f : ℕ → ℕ → Line) → two ns f ≡ None → length ns ≤ 2 → length ns < 2
 two-short [] f e h = omega arith
 two-short (n ∷ ns) f e h = omega (arith, one-short ns (f n) e (omega arith))
@@ -74,8 +78,13 @@ short verb.Task ns e h = four-short ns _ e h
 short verb.Segment ns e h = four-short ns _ e h
 short verb.Clear ns e h = none-short ns _ e h
 short verb.Adopt ns e h = none-short ns _ e h
+short verb.Open ns e h = none-short ns _ e h
+short verb.Release ns e h = one-short ns _ e h
+short verb.Tick ns e h = oneOr-short ns _ _ e h
+short verb.Close ns e h = none-short ns _ e h
 short verb.Read ns e h = one-short ns _ e h
 short verb.Demand ns e h = two-short ns _ e h
+short verb.Chart ns e h = none-short ns _ e h
 
 module _ (text bs rest : List ℕ) (w : List ℕ) (v : Verb) (kept : Uncommented text bs) (first : First bs w rest) (named : w ≡ spelled v) where
   verbed : Verbed bs v rest

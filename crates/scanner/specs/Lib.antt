@@ -1,4 +1,4 @@
 pub mod Lines
 pub mod Parsing
-pub mod Sessions
+pub mod Plans
 pub mod Texts

@@ -27,18 +27,28 @@ spelled verb.Task = codes "task"
 spelled verb.Segment = codes "segment"
 spelled verb.Clear = codes "clear"
 spelled verb.Adopt = codes "adopt"
+spelled verb.Open = codes "open"
+spelled verb.Release = codes "release"
+spelled verb.Tick = codes "tick"
+spelled verb.Close = codes "close"
 spelled verb.Read = codes "read"
 spelled verb.Demand = codes "demand"
+spelled verb.Chart = codes "chart"
 
--- how many numbers follow it
+-- how many numbers follow it; tick alone is one tick
 abbrev pub arityOf : Verb → ℕ
 arityOf verb.Rule = 1
 arityOf verb.Task = 4
 arityOf verb.Segment = 4
 arityOf verb.Clear = 0
 arityOf verb.Adopt = 0
+arityOf verb.Open = 0
+arityOf verb.Release = 1
+arityOf verb.Tick = 1
+arityOf verb.Close = 0
 arityOf verb.Read = 1
 arityOf verb.Demand = 2
+arityOf verb.Chart = 0
 
 -- lists of exactly so many numbers
 abbrev pub none : List ℕ → Line → Option Line
@@ -61,6 +71,11 @@ abbrev pub four : List ℕ → (ℕ → ℕ → ℕ → ℕ → Line) → Option
 four [] made = None
 four (a ∷ more) made = three more (made a)
 
+-- a list of at most one number, with what stands for none
+abbrev pub oneOr : List ℕ → ℕ → (ℕ → Line) → Option Line
+oneOr [] absent made = Some (made absent)
+oneOr (a ∷ more) absent made = none more (made a)
+
 -- the line of a verb and its numbers, if they are as many as it takes
 abbrev pub lineOf : Verb → List ℕ → Option Line
 lineOf verb.Rule ns = one ns line.Rule
@@ -69,5 +84,10 @@ lineOf verb.Task ns =
 lineOf verb.Segment ns = four ns (λ k s o a. line.Segment (record { kind = k; size = s; object = o; amount = a }))
 lineOf verb.Clear ns = none ns line.Clear
 lineOf verb.Adopt ns = none ns line.Adopt
+lineOf verb.Open ns = none ns line.Open
+lineOf verb.Release ns = one ns line.Release
+lineOf verb.Tick ns = oneOr ns 1 line.Tick
+lineOf verb.Close ns = none ns line.Close
 lineOf verb.Read ns = one ns line.Read
 lineOf verb.Demand ns = two ns line.Demand
+lineOf verb.Chart ns = none ns line.Chart

@@ -1,27 +1,33 @@
+ghost use mathlib.Core.Path.{_≡_};
 ghost use Rattle.std.specs.declared.option.Option.the-variants.{Some};
-ghost use Rattle.scanner.specs.Texts.{replyText, stampText};
+ghost use Rattle.scanner.specs.Texts.{saidText, stampText, sumsText, tickText, yesNo};
+use crate::plan::MOST_CALLS;
+use crate::plan::PlanError;
 use crate::script::LineError;
-use crate::session::Reply;
 use admission::task::Task;
+use controller::job::Sums;
+use controller::job::Ticked;
+use runs::calls::Answer;
 use std::fmt;
-use std::io;
-use std::io::Write;
 
-pub impl fmt::Display for Reply as ReplyDisplay {
-    ghost shown = { λ reply. Some (replyText reply) };
+// An answer; of a tick, with the clock after it.
+#[derive(Clone, Copy)]
+pub struct Said {
+    pub clock: u32,
+    pub answer: Answer,
+}
 
-    fn fmt<W: fmt::Write>(&self, f: &mut fmt::Formatter<W>) -> fmt::Result {
-        match self {
-            Reply::Taken { answer } => write!(f, "taken {answer}"),
-            Reply::Reading { reading } => write!(f, "reading {reading}"),
-            Reply::Demand { work, charge } => write!(f, "demand {work} {charge}"),
-            Reply::Refused { refusal } => {
-                let number = refusal.number();
-                let detail = refusal.detail();
-                write!(f, "refused {number} {detail}")
-            }
-        }
-    }
+// A tick, with the clock after it.
+#[derive(Clone, Copy)]
+struct TickTold {
+    clock: u32,
+    tick: Ticked,
+}
+
+// The sums of a batch.
+#[derive(Clone, Copy)]
+struct SumsTold {
+    sums: Sums,
 }
 
 // A task of a table that was taken, with its place in the list.
@@ -29,6 +35,77 @@ pub impl fmt::Display for Reply as ReplyDisplay {
 pub struct Stamp {
     pub place: usize,
     pub task: Task,
+}
+
+fn yes_no(yes: bool) -> &'static str
+    ensures { λ r. ⌜ now r ≡ yesNo yes ⌝ }
+{
+    if yes { "yes" } else { "no" }
+}
+
+pub impl fmt::Display for TickTold as TickToldDisplay {
+    ghost shown = { λ told. Some (tickText (told .clock) (told .tick)) };
+
+    fn fmt<W: fmt::Write>(&self, f: &mut fmt::Formatter<W>) -> fmt::Result {
+        let clock = self.clock;
+        let place = self.tick.place;
+        let event = self.tick.event.number();
+        let object = self.tick.event.object();
+        let word = self.tick.event.word();
+        let finished = yes_no(self.tick.finished);
+        write!(
+            f,
+            "tick {clock} place {place} event {event} object {object} word {word} finished {finished}"
+        )
+    }
+}
+
+pub impl fmt::Display for SumsTold as SumsToldDisplay {
+    ghost shown = { λ told. Some (sumsText (told .sums)) };
+
+    fn fmt<W: fmt::Write>(&self, f: &mut fmt::Formatter<W>) -> fmt::Result {
+        let ticks = self.sums.ticks;
+        let releases = self.sums.releases;
+        let finished = self.sums.finished;
+        let pending = self.sums.pending;
+        let retries = self.sums.retries;
+        let preemptions = self.sums.preemptions;
+        write!(
+            f,
+            "closed ticks {ticks} releases {releases} finished {finished} pending {pending} retries {retries} overtakings {preemptions}"
+        )
+    }
+}
+
+pub impl fmt::Display for Said as SaidDisplay {
+    ghost shown = { λ said. Some (saidText said) };
+
+    fn fmt<W: fmt::Write>(&self, f: &mut fmt::Formatter<W>) -> fmt::Result {
+        match self.answer {
+            Answer::Taken { answer } => write!(f, "taken {answer}"),
+            Answer::Opened => write!(f, "opened"),
+            Answer::Released { deadline } => write!(f, "released {deadline}"),
+            Answer::Worked { tick } => {
+                let told = TickTold {
+                    clock: self.clock,
+                    tick,
+                };
+                write!(f, "{told}")
+            }
+            Answer::Closed { sums } => {
+                let told = SumsTold { sums };
+                write!(f, "{told}")
+            }
+            Answer::Reading { reading } => write!(f, "reading {reading}"),
+            Answer::Demanded { work, charge } => write!(f, "demand {work} {charge}"),
+            Answer::NoToken => write!(f, "no token"),
+            Answer::Refused { refusal } => {
+                let number = refusal.number();
+                let detail = refusal.detail();
+                write!(f, "refused {number} {detail}")
+            }
+        }
+    }
 }
 
 pub impl fmt::Display for Stamp as StampDisplay {
@@ -66,14 +143,11 @@ pub impl fmt::Display for LineError<'_> as LineErrorDisplay {
     }
 }
 
-// A reply on its line; after a table was taken, also a line for each of its tasks.
-pub fn write_reply<W: Write>(out: &mut W, reply: Reply, tasks: &[Task]) -> io::Result<()> {
-    writeln!(out, "{reply}")?;
-    if let Reply::Taken { answer: _ } = reply {
-        for (place, task) in tasks.iter().enumerate() {
-            let stamp = Stamp { place, task: *task };
-            writeln!(out, "{stamp}")?;
+pub impl fmt::Display for PlanError as PlanErrorDisplay {
+    fn fmt<W: fmt::Write>(&self, f: &mut fmt::Formatter<W>) -> fmt::Result {
+        match self {
+            PlanError::OutOfMemory => write!(f, "out of memory"),
+            PlanError::TooManyCalls => write!(f, "a script makes at most {MOST_CALLS} calls"),
         }
     }
-    Ok(())
 }

@@ -22,8 +22,13 @@ pub enum Verb {
     Segment,
     Clear,
     Adopt,
+    Open,
+    Release,
+    Tick,
+    Close,
     Read,
     Demand,
+    Chart,
 }
 
 // A line of a script, understood.
@@ -34,8 +39,13 @@ pub enum Line {
     Segment { segment: Segment },
     Clear,
     Adopt,
+    Open,
+    Release { place: u32 },
+    Tick { times: u32 },
+    Close,
     Read { object: u32 },
     Demand { place: u32, time: u32 },
+    Chart,
 }
 
 // Why a text is no line of a script. The words are kept, so that the message can name them.
@@ -65,8 +75,13 @@ impl Verb {
             "segment" => Some(Verb::Segment),
             "clear" => Some(Verb::Clear),
             "adopt" => Some(Verb::Adopt),
+            "open" => Some(Verb::Open),
+            "release" => Some(Verb::Release),
+            "tick" => Some(Verb::Tick),
+            "close" => Some(Verb::Close),
             "read" => Some(Verb::Read),
             "demand" => Some(Verb::Demand),
+            "chart" => Some(Verb::Chart),
             _ => None,
         }
     }
@@ -80,12 +95,17 @@ impl Verb {
             Verb::Segment => "segment",
             Verb::Clear => "clear",
             Verb::Adopt => "adopt",
+            Verb::Open => "open",
+            Verb::Release => "release",
+            Verb::Tick => "tick",
+            Verb::Close => "close",
             Verb::Read => "read",
             Verb::Demand => "demand",
+            Verb::Chart => "chart",
         }
     }
 
-    // How many numbers follow it.
+    // How many numbers follow it; `tick` alone is one tick.
     pub fn arity(self) -> usize
         ensures value { λ r. ⌜ r ≡ arityOf self ⌝ }
         ensures most { λ _. ⌜ arityOf self ≤ 4 ⌝ }
@@ -96,8 +116,13 @@ impl Verb {
             Verb::Segment => 4,
             Verb::Clear => 0,
             Verb::Adopt => 0,
+            Verb::Open => 0,
+            Verb::Release => 1,
+            Verb::Tick => 1,
+            Verb::Close => 0,
             Verb::Read => 1,
             Verb::Demand => 2,
+            Verb::Chart => 0,
         }
     }
 }
@@ -165,11 +190,17 @@ fn line_of(verb: Verb, numbers: &[u32]) -> Option<Line>
         }),
         (Verb::Clear, []) => Some(Line::Clear),
         (Verb::Adopt, []) => Some(Line::Adopt),
+        (Verb::Open, []) => Some(Line::Open),
+        (Verb::Release, [place]) => Some(Line::Release { place: *place }),
+        (Verb::Tick, []) => Some(Line::Tick { times: 1 }),
+        (Verb::Tick, [times]) => Some(Line::Tick { times: *times }),
+        (Verb::Close, []) => Some(Line::Close),
         (Verb::Read, [object]) => Some(Line::Read { object: *object }),
         (Verb::Demand, [place, time]) => Some(Line::Demand {
             place: *place,
             time: *time,
         }),
+        (Verb::Chart, []) => Some(Line::Chart),
         _ => None,
     }
 }

@@ -23,4 +23,8 @@ returns c =
       queue-accepts = computed.queue-accepts;
       queue-misses = computed.queue-misses;
       queue-waits = computed.queue-waits;
+      run-deadlines = computed.run-deadlines;
+      run-answers = computed.run-answers;
+      run-sums = computed.run-sums;
+      run-reading = computed.run-reading;
     }

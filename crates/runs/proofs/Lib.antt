@@ -1,0 +1,14 @@
+pub mod Views
+pub mod Turning
+pub mod Books
+pub mod Urgent
+pub mod Tables
+pub mod Agree
+pub mod Keeping
+pub mod Releasing
+pub mod Ticking
+pub mod Steps
+pub mod Stories
+pub mod Loops
+pub mod Tokens
+pub mod Handing

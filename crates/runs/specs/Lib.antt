@@ -1,0 +1,3 @@
+pub mod Entries
+pub mod Ledger
+pub mod Laws
