@@ -1,5 +1,5 @@
 -- The sums of the tests are small enough for their types.
-use Rattle.std.proofs.Common.{◌≡◌, ℕ, ◌+◌, ◌-◌, ◌*◌, ◌/◌, ◌≤◌, mul-le-mul, div-le_self, arith}
+use Rattle.std.proofs.Common.{ℕ, ◌*◌, ◌/◌, ◌≤◌, mul-le-mul, div-le_self, arith}
 
 -- n jobs, as many as fit into some x ≤ 2,000,000 ticks, at m ticks each
 pub jobs_small : (x p m most : ℕ) → x ≤ 2000000 → m ≤ most → x / p * m ≤ 2000000 * most

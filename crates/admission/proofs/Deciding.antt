@@ -1,5 +1,5 @@
 -- From the answers of the questions to the verdict, and to the inequality that a table that is taken meets.
-use Rattle.std.proofs.Common.{◌≡◌, ℕ, ◌-◌, ◌<◌, ◌≤◌, Bool, true, false, cond, ◌&&◌, leb, List, map, length, get_or, take, is_some, Some, None, Ok, Err, Option, Result, unwrap_or, sym, refl, ap, ◌∙◌, subst, inl, inr, arith}
+use Rattle.std.proofs.Common.{◌≡◌, ℕ, ◌-◌, ◌<◌, ◌≤◌, true, false, ◌&&◌, leb, List, map, length, get_or, take, is_some, Some, None, Ok, Err, Option, Result, sym, ap, ◌∙◌, subst, inl, inr, arith}
 use native.Mathlib.Nat.{sub-zero}
 use Rattle.std.proofs.lemmas.List.{get_or-take}
 use Rattle.std.proofs.lemmas.Bool.{cases_Bool, le-leb, and_from, cond-true, cond-false}
@@ -8,7 +8,6 @@ use Rattle.admission.specs.declared.task.Segment.{Segment}
 use Rattle.admission.specs.declared.task.Task.{Task}
 use Rattle.admission.specs.declared.plan.Rule.{Rule}
 use Rattle.admission.specs.declared.plan.Plan.{Plan}
-use Rattle.admission.specs.declared.plan.Step.{Step}
 use Rattle.admission.specs.declared.plan.AdoptedTask.{AdoptedTask}
 use Rattle.admission.specs.declared.refusal.Refusal.{Refusal}
 use Rattle.admission.specs.declared.refusal.Refusal.TheVariants.{TaskCount, LongHyperperiod}
@@ -18,7 +17,7 @@ use Rattle.admission.specs.Passing.{Passes}
 use Rattle.admission.specs.Tables.{Table, goes_by_rank, adopted_tasks_of, plans_of_tasks, steps_in, no_task, no_adopted_task}
 use Rattle.admission.specs.Limits.{TableLimits, AdoptedLimits, AllLawful}
 use Rattle.admission.specs.Tests.{Ranked, MeetsByRank, MeetsByDeadline, hyperperiod_of}
-use Rattle.admission.specs.Verdicts.{first_no, unless, rule_of_number, tasks_no, ranks_no, deadlines_no, hyperperiod_no, test_no, witnesses_of, table_of, table_no, verdict_under, verdict, stamp_of, stamped_by}
+use Rattle.admission.specs.Verdicts.{first_no, unless, rule_of_number, tasks_no, ranks_no, deadlines_no, hyperperiod_no, test_no, witnesses_of, table_of, verdict_under, verdict, stamp_of, stamped_by}
 use Rattle.admission.proofs.Filling.{listed_same}
 use Rattle.admission.proofs.Questions.{unless_ok}
 use Rattle.admission.proofs.Firsts.{none≢some, none_from}

@@ -1,10 +1,9 @@
 -- Greatest common divisors by remainders, least common multiples from them, and the hyperperiod one period at a time.
-use Rattle.std.proofs.Common.{◌≡◌, ℕ, zero, suc, ◌+◌, ◌-◌, ◌*◌, ◌/◌, ◌%◌, ◌<◌, ◌≤◌, Bool, true, false, not, eqb, List, length, get_or, Some, None, sym, refl, ap, ◌∙◌, subst, inl, inr, mod-lt, mul_assoc, mul_comm, mul-pos, mul-add, arith}
+use Rattle.std.proofs.Common.{◌≡◌, ℕ, ◌+◌, ◌*◌, ◌/◌, ◌%◌, ◌<◌, ◌≤◌, true, false, List, length, get_or, Some, None, sym, ap, ◌∙◌, subst, inl, inr, mod-lt, mul_assoc, mul_comm, mul-pos, mul-add, arith}
 use Prim.Native.Nat.{◌∣◌}
 use native.Mathlib.Nat.{dvd_refl, dvd-zero, dvd-mod_iff, dvd-mul_left, dvd-mul_right, dvd-mul_right_of_dvd, dvd-add_iff_right, dvd_trans, mul-dvd-mul_left, mul-dvd-mul_right, dvd_of_mul-dvd-mul_right, div-mul_cancel, pos_of_dvd_of_pos, le_of_dvd, div-add-mod, mod-eq-zero_of_dvd, dvd_of_mod-eq-zero}
 use Rattle.std.proofs.lemmas.Bool.{cases_eq, cases_lt, cases_Bool, both_ways, eq-eqb, eqb-true, not_from_true, not_from_false, not-false, not-true}
 use Rattle.admission.specs.declared.plan.AdoptedTask.{AdoptedTask}
-use Rattle.admission.specs.Search.{some_below}
 use Rattle.admission.specs.Tables.{no_adopted_task}
 use Rattle.admission.specs.Multiples.{IsGcd, IsLcm, Common, IsHyperperiod}
 use Rattle.admission.specs.Tests.{common_multiple, hyperperiod_of}

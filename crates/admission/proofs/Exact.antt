@@ -1,19 +1,17 @@
 -- The tests that are run are exactly the inequalities.
-use Rattle.std.proofs.Common.{◌≡◌, ℕ, zero, suc, ◌+◌, ◌<◌, ◌≤◌, Bool, true, false, cond, not, ltb, leb, ◌↔◌, List, length, get_or, is_some, Some, None, Ok, Err, Option, unwrap_or, sym, refl, ap, ◌∙◌, subst, inl, inr, arith}
+use Rattle.std.proofs.Common.{◌≡◌, ℕ, zero, suc, ◌<◌, ◌≤◌, Bool, true, false, cond, not, ltb, leb, List, length, get_or, is_some, Some, None, Ok, Option, unwrap_or, sym, refl, ap, ◌∙◌, subst, inl, inr, arith}
 use Rattle.std.specs.Option.{option_map}
 use Rattle.std.proofs.lemmas.Bool.{cases_Bool, both_ways, and_parts, and_from, ltb-true, leb-true, le-leb, ltb-false, not-false, not_from_false, cond-true}
 use Rattle.std.proofs.lemmas.List.FromFn.{get_or-map-range_with_len}
-use Rattle.admission.specs.declared.plan.Rule.{Rule}
 use Rattle.admission.specs.declared.plan.AdoptedTask.{AdoptedTask}
 use Rattle.admission.specs.declared.refusal.Refusal.{Refusal}
 use Rattle.admission.specs.declared.refusal.Refusal.TheVariants.{Overload, Unschedulable}
-use Rattle.admission.specs.Search.{least_up_to, first_below, some_below}
+use Rattle.admission.specs.Search.{first_below, some_below}
 use Rattle.admission.specs.Tables.{no_adopted_task, goes_by_rank}
-use Rattle.admission.specs.Limits.{AllLawful}
 use Rattle.admission.specs.Demand.{demand_by_rank, demand_by_deadline}
-use Rattle.admission.specs.Tests.{Witnessed, MeetsByRank, MeetsByDeadline, least_witness, unmet, lowest_unmet, hyperperiod_of, load_of, least_overrun}
-use Rattle.admission.specs.Verdicts.{asked, first_no, unless, ranks_no, hyperperiod_no, deadlines_no, witnesses_of}
-use Rattle.admission.specs.Laws.{Least, SearchFindsTheLeast, TestByRankIsExact, TestByDeadlineIsExact}
+use Rattle.admission.specs.Tests.{Witnessed, least_witness, unmet, lowest_unmet, hyperperiod_of, load_of, least_overrun}
+use Rattle.admission.specs.Verdicts.{asked, first_no, unless, hyperperiod_no, deadlines_no, witnesses_of}
+use Rattle.admission.specs.Laws.{SearchFindsTheLeast, TestByRankIsExact, TestByDeadlineIsExact}
 use Rattle.admission.proofs.Firsts.{none≢some, none_from, first_none, first_some, first_found, first_missing}
 use Rattle.admission.proofs.Witnesses.{lower, lowest, all_met}
 use Rattle.admission.proofs.Divisors.{hyperperiod_found}

@@ -1,5 +1,5 @@
 -- What the limits give: lists that pass their questions are within bounds.
-use Rattle.std.proofs.Common.{◌≡◌, ℕ, zero, suc, ◌+◌, ◌*◌, ◌<◌, ◌≤◌, Bool, true, false, cond, ◌&&◌, eqb, leb, List, [], ◌∷◌, length, get_or, None, Option, sym, refl, ap, ◌∙◌, subst, inl, inr, arith}
+use Rattle.std.proofs.Common.{◌≡◌, ℕ, zero, suc, ◌+◌, ◌*◌, ◌<◌, ◌≤◌, Bool, true, false, ◌&&◌, eqb, leb, List, [], ◌∷◌, length, get_or, None, sym, refl, subst, inl, inr, arith}
 use Rattle.std.proofs.lemmas.Bool.{cases_Bool, and_parts, leb-true, false≢true}
 use Rattle.shelf.specs.Models.{Rules}
 use Rattle.admission.specs.declared.task.Segment.{Segment}
@@ -7,8 +7,8 @@ use Rattle.admission.specs.declared.task.Task.{Task}
 use Rattle.admission.specs.declared.plan.Rule.{Rule}
 use Rattle.admission.specs.declared.plan.AdoptedTask.{AdoptedTask}
 use Rattle.admission.specs.declared.refusal.Refusal.TheVariants.{PeriodOrDeadline, SegmentRange, KindOrSize, AccessObject}
-use Rattle.admission.specs.Lengths.{attempt_ticks_of, ticks_of, attempt_of, cost, owned}
-use Rattle.admission.specs.Tables.{no_task, no_segment, no_adopted_task, adopted_task_of, adopted_tasks_of}
+use Rattle.admission.specs.Lengths.{attempt_ticks_of, cost, owned}
+use Rattle.admission.specs.Tables.{no_task, no_segment, adopted_tasks_of}
 use Rattle.admission.specs.Limits.{SegmentLimits, TaskLimits, TableLimits, NumberLimits, AdoptedLimits, AllLawful}
 use Rattle.admission.specs.Verdicts.{asked, first_no, has_fit_times, has_fit_range, has_fit_size, has_object, segments_no, task_no, tasks_no}
 use Rattle.admission.proofs.Exact.{first_no_left, first_no_right, asked_yes}

@@ -1,6 +1,5 @@
 -- The demand by deadline grows by the load from each hyperperiod to the next, so one hyperperiod stands for all.
-use Rattle.std.proofs.Common.{◌≡◌, ℕ, zero, suc, ◌+◌, ◌-◌, ◌*◌, ◌/◌, ◌<◌, ◌≤◌, ◌↔◌, List, length, get_or, sym, refl, ap, ◌∙◌, subst, inl, inr, add-mul, mul-add, arith}
-use Prim.Native.Nat.{◌∣◌}
+use Rattle.std.proofs.Common.{◌≡◌, ℕ, zero, suc, ◌+◌, ◌-◌, ◌*◌, ◌/◌, ◌<◌, ◌≤◌, ◌↔◌, List, length, get_or, sym, ap, ◌∙◌, inl, inr, add-mul, mul-add, arith}
 use native.Mathlib.Nat.{add-mul-div_right, div-eq_of_lt, div-mul_cancel}
 use Rattle.std.proofs.lemmas.Bool.{cases_lt}
 use Rattle.admission.specs.declared.plan.AdoptedTask.{AdoptedTask}

@@ -1,10 +1,10 @@
 -- The demand never falls as time passes.
-use Rattle.std.proofs.Common.{◌≡◌, ℕ, ◌+◌, ◌-◌, ◌*◌, ◌/◌, ◌<◌, ◌≤◌, Bool, true, false, cond, ltb, leb, List, length, get_or, refl, mul-le-mul_right, div-mul-le_self, arith}
+use Rattle.std.proofs.Common.{ℕ, ◌*◌, ◌/◌, ◌≤◌, Bool, true, false, cond, ltb, leb, List, length, get_or, mul-le-mul_right, div-mul-le_self, arith}
 use Rattle.std.proofs.lemmas.Nat.{le-div}
 use Rattle.admission.specs.declared.plan.AdoptedTask.{AdoptedTask}
 use Rattle.admission.specs.Tables.{no_adopted_task}
 use Rattle.admission.specs.Limits.{AdoptedLimits}
-use Rattle.admission.specs.Demand.{ceiling, work_by_rank, charge_by_rank, work_by_deadline, charge_by_deadline, demand_up_to_rank, demand_by_deadline}
+use Rattle.admission.specs.Demand.{work_by_rank, charge_by_rank, work_by_deadline, charge_by_deadline, demand_up_to_rank, demand_by_deadline}
 use Rattle.admission.proofs.Ranges.{sum_le}
 
 -- in more ticks as many jobs fit, or more

@@ -1,11 +1,11 @@
 -- The part of the segment list that a task owns, cost and longest attempt as a loop over it meets them.
-use Rattle.std.proofs.Common.{◌≡◌, ℕ, ◌+◌, ◌-◌, ◌<◌, ◌≤◌, max, List, [], ◌∷◌, length, get_or, take, drop, sym, refl, ap, ◌∙◌, subst, arith}
+use Rattle.std.proofs.Common.{◌≡◌, ℕ, ◌+◌, ◌-◌, ◌<◌, ◌≤◌, max, List, length, get_or, take, drop, sym, ap, subst, arith}
 use Rattle.std.proofs.lemmas.List.{at_drop_more, at_drop_all, length-take, length-drop}
 use Rattle.admission.specs.declared.task.Segment.{Segment}
 use Rattle.admission.specs.declared.task.Task.{Task}
 use Rattle.admission.specs.Lengths.{ticks_of, attempt_of, cost, longest, owned, longest_attempt_of}
 use Rattle.admission.specs.Tables.{no_task, no_segment}
-use Rattle.admission.specs.Limits.{SegmentLimits, TaskLimits, TableLimits}
+use Rattle.admission.specs.Limits.{SegmentLimits, TaskLimits}
 
 -- the part that a loop over `&segments[first..first + count]` has
 abbrev pub part : List Segment → Task → List Segment

@@ -1,17 +1,16 @@
 -- What a passed test gives, from what the search for witnesses and the test by deadline answer.
-use Rattle.std.proofs.Common.{◌≡◌, ℕ, ◌<◌, ◌≤◌, Bool, true, false, cond, List, length, get_or, take, replicate, Some, None, Option, unwrap_or, sym, refl, ap, ◌∙◌, subst, arith}
+use Rattle.std.proofs.Common.{◌≡◌, ℕ, ◌<◌, ◌≤◌, true, false, cond, List, length, get_or, take, replicate, Some, None, Option, unwrap_or, sym, refl, ap, ◌∙◌, arith}
 use Rattle.std.specs.Option.{option_map}
 use Rattle.std.proofs.lemmas.List.{get_or-take, length-take-le, get_or-replicate}
 use Rattle.std.proofs.lemmas.List.FromFn.{fill_by_all, length-map-range_with_len}
 use Rattle.std.proofs.lemmas.Bool.{cond-true, cond-false}
 use Rattle.admission.specs.declared.plan.Rule.{Rule}
 use Rattle.admission.specs.declared.plan.AdoptedTask.{AdoptedTask}
-use Rattle.admission.specs.declared.refusal.Refusal.{Refusal}
 use Rattle.admission.specs.declared.refusal.Refusal.TheVariants.{Unschedulable}
 use Rattle.admission.specs.Search.{max_below}
 use Rattle.admission.specs.Tables.{goes_by_rank}
 use Rattle.admission.specs.Tests.{least_witness, lowest_unmet, hyperperiod_of}
-use Rattle.admission.specs.Verdicts.{ranks_no, deadlines_no, test_no, witnesses_of}
+use Rattle.admission.specs.Verdicts.{ranks_no, deadlines_no, witnesses_of}
 use Rattle.admission.specs.Passing.{Passes}
 
 module _ (rule : Rule) (attempt : ℕ) (tasks : List AdoptedTask) (few : length tasks ≤ 32) where

@@ -1,13 +1,13 @@
 -- The test by rank: what a search for a witness shows.
-use Rattle.std.proofs.Common.{◌≡◌, ℕ, ◌+◌, ◌<◌, ◌≤◌, Bool, true, false, not, ◌&&◌, ltb, leb, List, length, get_or, is_some, Some, None, Option, sym, refl, ap, ◌∙◌, subst, inl, inr, arith}
-use Rattle.std.proofs.lemmas.Bool.{cases_lt, cases_Bool, cases_order, both_ways, le-leb, lt-leb, lt-ltb, le-ltb, ltb-true, leb-true, and_from, and_left, and_right, not_from_true, not_from_false}
+use Rattle.std.proofs.Common.{◌≡◌, ℕ, ◌+◌, ◌<◌, ◌≤◌, Bool, true, false, not, ◌&&◌, ltb, leb, List, length, get_or, is_some, Some, None, Option, sym, ap, ◌∙◌, inl, inr, arith}
+use Rattle.std.proofs.lemmas.Bool.{cases_lt, cases_order, le-leb, lt-leb, lt-ltb, le-ltb, and_from, and_left, and_right, not_from_true, not_from_false}
 use Rattle.admission.specs.declared.plan.AdoptedTask.{AdoptedTask}
 use Rattle.admission.specs.declared.plan.Rule.TheVariants.{RateMonotonic}
-use Rattle.admission.specs.Search.{first_below, some_below, least_up_to}
+use Rattle.admission.specs.Search.{some_below}
 use Rattle.admission.specs.Tables.{no_adopted_task}
 use Rattle.admission.specs.Limits.{AdoptedLimits}
 use Rattle.admission.specs.Demand.{work_within, charge_within, demand_up_to_rank, demand_by_rank}
-use Rattle.admission.specs.Tests.{Ranked, Witnessed, least_witness, unmet, lowest_unmet}
+use Rattle.admission.specs.Tests.{Ranked, least_witness, unmet, lowest_unmet}
 use Rattle.admission.proofs.Firsts.{first_none, first_some, some_true, some_false}
 use Rattle.admission.proofs.Monotone.{demand_later}
 

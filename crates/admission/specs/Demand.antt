@@ -1,7 +1,7 @@
 -- The time that jobs can ask for: work, and the charge for attempts that are made again.
-use Rattle.std.specs.Prelude.{ℕ, ◌+◌, ◌-◌, ◌*◌, ◌/◌, true, false, cond, List, length, get_or, nat_le, nat_lt, slice_index_or}
+use Rattle.std.specs.Prelude.{ℕ, ◌+◌, ◌-◌, ◌*◌, ◌/◌, cond, List, length, get_or, nat_le, nat_lt, slice_index_or}
 use Rattle.admission.specs.declared.plan.Rule.{Rule}
-use Rattle.admission.specs.declared.plan.Rule.TheVariants.{RateMonotonic, DeadlineMonotonic, EarliestDeadlineFirst}
+use Rattle.admission.specs.declared.plan.Rule.TheVariants.{RateMonotonic, EarliestDeadlineFirst}
 use Rattle.admission.specs.declared.plan.AdoptedTask.{AdoptedTask}
 use Rattle.admission.specs.Search.{sum_below}
 use Rattle.admission.specs.Tables.{goes_by_rank, no_adopted_task}

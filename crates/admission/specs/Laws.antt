@@ -1,5 +1,5 @@
 -- What the definitions of the tests amount to.
-use Rattle.std.specs.Prelude.{◌≡◌, ℕ, ◌<◌, ◌≤◌, Bool, true, false, ◌↔◌, List, length, get_or, is_some, Some, None}
+use Rattle.std.specs.Prelude.{◌≡◌, ℕ, ◌<◌, ◌≤◌, Bool, true, false, ◌↔◌, List, length, is_some, Some, None}
 use Rattle.admission.specs.declared.task.Segment.{Segment}
 use Rattle.admission.specs.declared.task.Task.{Task}
 use Rattle.admission.specs.declared.plan.Rule.{Rule}
@@ -9,7 +9,7 @@ use Rattle.admission.specs.Tables.{goes_by_rank, adopted_tasks_of}
 use Rattle.admission.specs.Limits.{AllLawful}
 use Rattle.admission.specs.Demand.{demand_by_deadline}
 use Rattle.admission.specs.Multiples.{Common, IsHyperperiod}
-use Rattle.admission.specs.Tests.{Ranked, Witnessed, MeetsByRank, MeetsByDeadline, hyperperiod_of, load_of}
+use Rattle.admission.specs.Tests.{Ranked, MeetsByRank, MeetsByDeadline, hyperperiod_of, load_of}
 use Rattle.admission.specs.Verdicts.{ranks_no, deadlines_no, witnesses_of}
 
 -- t is the least number from 1 to `most` that passes a test

@@ -1,5 +1,5 @@
 -- Greatest common divisors and least common multiples.
-use Rattle.std.specs.Prelude.{ℕ, ◌*◌, ◌<◌, List, length, slice_index_or}
+use Rattle.std.specs.Prelude.{ℕ, ◌*◌, ◌<◌, List, slice_index_or}
 use Rattle.std.specs.Int.{◌∣◌}
 use Rattle.admission.specs.declared.plan.AdoptedTask.{AdoptedTask}
 use Rattle.admission.specs.Tables.{no_adopted_task}

@@ -1,18 +1,17 @@
 -- A table of tasks as it is held once taken.
-use Rattle.std.specs.Prelude.{ℕ, ◌+◌, ◌<◌, Bool, true, false, cond, ◌&&◌, ◌||◌, List, [], ◌∷◌, map, length, get_or, take, ◌==◌, nat_lt, slice_index_or}
+use Rattle.std.specs.Prelude.{ℕ, Bool, true, false, cond, ◌&&◌, ◌||◌, List, [], map, length, get_or, take, ◌==◌, nat_lt, slice_index_or}
 use Rattle.std.specs.List.{range_with_len}
 use Rattle.admission.specs.declared.task.Segment.{Segment}
 use Rattle.admission.specs.declared.task.Task.{Task}
 use Rattle.admission.specs.declared.plan.Rule.{Rule}
 use Rattle.admission.specs.declared.plan.Rule.TheVariants.{RateMonotonic, DeadlineMonotonic, EarliestDeadlineFirst}
-use Rattle.admission.specs.declared.plan.Word.{Word}
 use Rattle.admission.specs.declared.plan.Word.TheVariants.{Put, Add}
 use Rattle.admission.specs.declared.plan.Step.{Step}
 use Rattle.admission.specs.declared.plan.Step.TheVariants.{Compute, Access}
 use Rattle.admission.specs.declared.plan.AdoptedTask.{AdoptedTask}
 use Rattle.admission.specs.declared.plan.Plan.{Plan}
 use Rattle.admission.specs.Search.{count_below}
-use Rattle.admission.specs.Lengths.{attempt_ticks_of, cost, owned, longest_attempt_of}
+use Rattle.admission.specs.Lengths.{attempt_ticks_of, cost, owned}
 
 -- the list of f 0, f 1, .., f (n - 1)
 abbrev pub listed : {X : Type 0} → ℕ → (ℕ → X) → List X

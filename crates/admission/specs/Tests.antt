@@ -1,5 +1,5 @@
 -- When a table keeps its deadlines: the inequalities of the three rules, and what names a table that fails.
-use Rattle.std.specs.Prelude.{◌≡◌, ℕ, zero, suc, ◌+◌, ◌-◌, ◌*◌, ◌/◌, ◌%◌, ◌<◌, ◌≤◌, Bool, true, not, ◌&&◌, ltb, List, length, is_some, Option, ◌==◌, nat_le, nat_lt, slice_index, slice_index_or}
+use Rattle.std.specs.Prelude.{◌≡◌, ℕ, ◌+◌, ◌-◌, ◌*◌, ◌/◌, ◌%◌, ◌<◌, ◌≤◌, Bool, not, ◌&&◌, ltb, List, length, is_some, Option, ◌==◌, nat_le, nat_lt, slice_index, slice_index_or}
 use Rattle.admission.specs.declared.plan.AdoptedTask.{AdoptedTask}
 use Rattle.admission.specs.Search.{sum_below, least_up_to, first_below, some_below}
 use Rattle.admission.specs.Tables.{no_adopted_task}

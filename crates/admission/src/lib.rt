@@ -1,4 +1,6 @@
 // Which task tables keep their deadlines, and what is held of a table that is taken.
+#![tactic(auto)]
+
 pub mod adopt;
 pub mod demand;
 pub mod hyperperiod;

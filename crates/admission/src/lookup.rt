@@ -1,4 +1,4 @@
-ghost use Rattle.std.specs.Prelude.{◌≡◌, ◌≤◌, true, length};
+ghost use Rattle.std.specs.Prelude.{◌≡◌, ◌<◌, ◌≤◌, true, length, OnSome, slice_get};
 ghost use Rattle.admission.specs.Held.{held};
 ghost use Rattle.admission.specs.Tables.{goes_by_rank, plan_at};
 ghost use Rattle.admission.specs.Tests.{Ordered};
@@ -41,5 +41,17 @@ impl AdoptedTable {
         let plan = &self.plans[place];
         let steps = &plan.steps[..];
         &steps[0..plan.count]
+    }
+    // A step of the jobs of a place.
+    pub fn step(&self, place: usize, index: usize) -> Option<Step>
+        ensures is { result ≡ slice_get (plan_at (held self.now).plans place) index }
+        ensures few { OnSome result (index < 8) }
+    {
+        let steps = self.plan(place);
+        if index < steps.len() {
+            Some(steps[index])
+        } else {
+            None
+        }
     }
 }

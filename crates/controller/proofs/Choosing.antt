@@ -1,9 +1,9 @@
 -- The most urgent pending job, found by going through the places once.
-use Rattle.std.proofs.Common.{◌≡◌, ℕ, ◌+◌, ◌<◌, ◌≤◌, Bool, true, false, cond, not, ◌&&◌, ◌||◌, eqb, ltb, ◌⊎◌, Some, None, Option, sym, refl, ap, ◌∙◌, subst, inl, inr, arith}
-use Rattle.std.proofs.lemmas.Bool.{cases_Bool, cases_eq, cases_lt, both_ways, or_cases, or_parts, or_left, or_right, or_from, and_parts, and_from, and_cases, and_left, and_right, lt-ltb, le-ltb, ltb-true, ltb-false, eq-eqb, ne_eqb, eqb-true, eqb-false, not_from_true, not_from_false}
+use Rattle.std.proofs.Common.{◌≡◌, ℕ, ◌+◌, ◌<◌, ◌≤◌, Bool, true, false, not, ◌&&◌, eqb, ltb, ◌⊎◌, IfSome, Some, None, Option, sym, ◌∙◌, subst, inl, inr, arith}
+use Rattle.std.proofs.lemmas.Bool.{cases_Bool, cases_eq, both_ways, or_cases, or_parts, or_left, or_right, and_parts, and_from, and_cases, and_left, and_right, lt-ltb, ltb-true, ltb-false, eq-eqb, eqb-true, eqb-false, not_from_true, not_from_false}
 use Rattle.admission.specs.Search.{first_below, some_below}
 use Rattle.admission.proofs.Firsts.{first_none, first_some, some_true, some_false}
-use Rattle.controller.specs.Choices.{is_more_urgent}
+use Rattle.controller.specs.Choices.{is_more_urgent, better_of}
 
 -- one urgency is lower than another, or it is not
 abbrev pub Lower : ℕ × ℕ → ℕ × ℕ → Type 0
@@ -72,6 +72,10 @@ module _ (pending : ℕ → Bool) (urgency : ℕ → ℕ × ℕ) where
       × ((k : ℕ) → k < n → pending k ≡ true → before k b ≡ false)
       × ((j : ℕ) → j < b → pending j ≡ true → before b j ≡ true)
 
+  pub best_inside : (n : ℕ) (o : Option ℕ) → Best n o → IfSome o (λ b. b < n)
+  best_inside n None h = tt
+  best_inside n (Some b) h = h.0
+
   pub best_skip : (n : ℕ) (o : Option ℕ) → Best n o → pending n ≡ false → Best (n + 1) o
   best_skip n None h p = λ k l. elim (cases_eq k n) [ inl e ↦ subst (λ (x : ℕ). pending x ≡ false) (sym e) p | inr d ↦ h k (omega arith) ]
   best_skip n (Some b) h p = (
@@ -81,7 +85,7 @@ module _ (pending : ℕ → Bool) (urgency : ℕ → ℕ × ℕ) where
     h.3,
   )
 
-  pub replaced : (n b : ℕ) → Best n (Some b) → pending n ≡ true → before n b ≡ true → Best (n + 1) (Some n)
+  replaced : (n b : ℕ) → Best n (Some b) → pending n ≡ true → before n b ≡ true → Best (n + 1) (Some n)
   replaced n b h p e =
       let low = lower_yes (urgency n) (urgency b) e in (
         omega arith,
@@ -96,7 +100,7 @@ module _ (pending : ℕ → Bool) (urgency : ℕ → ℕ × ℕ) where
         (λ j l q. lower_from (urgency n) (urgency j) (lower_upper (urgency n) (urgency b) (urgency j) low (lower_no (urgency j) (urgency b) (h.2 j l q)))),
       )
 
-  pub stays : (n b : ℕ) → Best n (Some b) → before n b ≡ false → Best (n + 1) (Some b)
+  stays : (n b : ℕ) → Best n (Some b) → before n b ≡ false → Best (n + 1) (Some b)
   stays n b h e = (
     omega (arith, h.0),
     h.1,
@@ -104,9 +108,8 @@ module _ (pending : ℕ → Bool) (urgency : ℕ → ℕ × ℕ) where
     h.3,
   )
 
-  -- the first pending one
-  pub best_first : (n : ℕ) → Best n None → pending n ≡ true → Best (n + 1) (Some n)
-  best_first n h p = (
+  pub best_more : (n : ℕ) (o : Option ℕ) → Best n o → pending n ≡ true → Best (n + 1) (better_of before o n)
+  best_more n None h p = (
     omega arith,
     p,
     (λ k l q.
@@ -116,6 +119,11 @@ module _ (pending : ℕ → Bool) (urgency : ℕ → ℕ × ℕ) where
         ]),
     (λ j l q. absurd (both_ways (pending j) (h j l) q)),
   )
+  best_more n (Some b) h p =
+      elim (cases_Bool (before n b)) [
+        | inl e ↦ rw e (replaced n b h p e)
+        | inr e ↦ rw e (stays n b h e)
+      ]
 
   abbrev ahead : ℕ → ℕ → Bool
   ahead place other = before other place && pending other

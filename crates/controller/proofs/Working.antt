@@ -1,5 +1,5 @@
 -- The tick of the chosen job, put together from its parts.
-use Rattle.std.proofs.Common.{◌≡◌, ℕ, ◌+◌, not, List, get_or, set, Some, Option, sym, refl, ap, ◌∙◌}
+use Rattle.std.proofs.Common.{◌≡◌, ℕ, ◌+◌, not, get_or, set, Some, Option, ap, ◌∙◌}
 use Rattle.std.specs.List.{slice_get}
 use Rattle.shelf.specs.Models.{Model}
 use Rattle.admission.specs.declared.plan.Step.{Step}

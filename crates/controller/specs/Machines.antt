@@ -1,7 +1,7 @@
 -- A controller as plain lists and numbers, and what each call answers and leaves.
 use Rattle.std.specs.Prelude.{ℕ, ◌+◌, min, Bool, true, false, cond, not, List, length, replicate, Some, None, Ok, Err, Option, Result, nat_le, nat_lt, slice_index_or, slice_set}
 use Rattle.std.specs.List.{slice_get}
-use Rattle.shelf.specs.Models.{Rules, Model, reading_at}
+use Rattle.shelf.specs.Models.{Model, reading_at}
 use Rattle.admission.specs.declared.plan.Step.{Step}
 use Rattle.admission.specs.declared.task.Segment.{Segment}
 use Rattle.admission.specs.declared.task.Task.{Task}
@@ -18,7 +18,7 @@ use Rattle.controller.specs.declared.job.Event.{Event}
 use Rattle.controller.specs.declared.job.Event.TheVariants.{Computed, Attempted, Committed, Retried, Idle}
 use Rattle.controller.specs.declared.job.Ticked.{Ticked}
 use Rattle.controller.specs.declared.job.Sums.{Sums}
-use Rattle.controller.specs.Turns.{Turn, pending_in, start_of, turn}
+use Rattle.controller.specs.Turns.{Turn, start_of, turn}
 use Rattle.controller.specs.Choices.{no_job, pending_at, chosen}
 
 -- an open batch

@@ -1,5 +1,4 @@
-ghost use Rattle.std.specs.Prelude.{◌≡◌, ℕ, ◌+◌, ◌<◌, true, length, OnSome};
-ghost use Rattle.std.specs.List.{slice_get};
+ghost use Rattle.std.specs.Prelude.{◌≡◌, ℕ, ◌+◌, ◌<◌};
 ghost use Rattle.controller.specs.Turns.{word_of, pending_in, left_in, seen_in, start_of, goes_by, brings, outcome_of, model_after, turn};
 
 use crate::job::{Event, Job, JobState};
@@ -12,14 +11,6 @@ pub enum Outcome {
     UnderWay,
     Accepted,
     Refused,
-}
-
-// What an attempt goes by on a tick, the word it would commit, and what comes of it.
-#[derive(Clone, Copy)]
-struct Attempt {
-    reading: u32,
-    word: u32,
-    outcome: Outcome,
 }
 
 pub(crate) fn is_pending(state: JobState) -> bool
@@ -52,18 +43,6 @@ fn reading_seen(state: JobState) -> u32
     }
 }
 
-// A step of a plan; none after the last.
-pub(crate) fn step_at(plan: &[Step], index: usize) -> Option<Step>
-    ensures is { result ≡ slice_get plan.now index }
-    ensures inside { OnSome result (index < length plan.now) }
-{
-    if index < plan.len() {
-        Some(plan[index])
-    } else {
-        None
-    }
-}
-
 // A job at the start of a step, or at rest after the last.
 pub(crate) fn start_of(step: Option<Step>) -> JobState
     ensures { result ≡ start_of step }
@@ -78,6 +57,22 @@ pub(crate) fn start_of(step: Option<Step>) -> JobState
     }
 }
 
+// The reading that an attempt goes by: its first tick looks, before anything else.
+fn reading_for<S: Shelf>(shelf: &S, state: JobState, step: Step) -> u32
+    ensures { result ≡ goes_by (S.Shelf.model shelf.now) state step }
+{
+    match step {
+        Step::Compute { .. } => 0,
+        Step::Access { ticks, object, .. } => {
+            if ticks_left(state) == ticks {
+                shelf.look(object)
+            } else {
+                reading_seen(state)
+            }
+        }
+    }
+}
+
 fn word_of(word: Word, reading: u32, amount: u32) -> u32
     ensures { result ≡ word_of word reading amount }
 {
@@ -87,78 +82,67 @@ fn word_of(word: Word, reading: u32, amount: u32) -> u32
     }
 }
 
-// Of a job that attempts nothing.
-const NO_ATTEMPT: Attempt = Attempt {
-    reading: 0,
-    word: 0,
-    outcome: Outcome::UnderWay,
-};
+// The word that a step brings to its commit; computing brings none.
+fn word_for(step: Step, reading: u32) -> u32
+    ensures { result ≡ brings step reading }
+{
+    match step {
+        Step::Compute { .. } => 0,
+        Step::Access { word, amount, .. } => word_of(word, reading, amount),
+    }
+}
 
-// One tick of an attempt: the first looks, before anything else; the last commits the word worked
-// out from what the first one saw. Computing attempts nothing.
-fn make_attempt<S: Shelf>(shelf: &mut S, state: JobState, step: Step) -> Attempt
-    ensures reading { pending_in state ≡ true → result.reading ≡ goes_by (S.Shelf.model shelf.old) state step }
-    ensures word { pending_in state ≡ true → result.word ≡ brings step result.reading }
-    ensures outcome { result.outcome ≡ outcome_of (S.Shelf.model shelf.old) state step result.reading }
-    ensures shelf { S.Shelf.model shelf.new ≡ model_after result.outcome (S.Shelf.model shelf.old) step result.reading result.word }
+// Commits on the last tick of an attempt.
+fn commit_if_due<S: Shelf>(
+    shelf: &mut S,
+    state: JobState,
+    step: Step,
+    reading: u32,
+    word: u32,
+) -> Outcome
+    ensures outcome { result ≡ outcome_of (S.Shelf.model shelf.old) state step reading }
+    ensures shelf { S.Shelf.model shelf.new ≡ model_after result (S.Shelf.model shelf.old) step reading word }
 {
     match (state, step) {
-        (JobState::Resting, _) => NO_ATTEMPT,
-        (_, Step::Compute { .. }) => NO_ATTEMPT,
-        (
-            _,
-            Step::Access {
-                word,
-                ticks,
-                object,
-                amount,
-            },
-        ) => {
-            let left = ticks_left(state);
-            let reading = if left == ticks {
-                shelf.look(object)
-            } else {
-                reading_seen(state)
-            };
-            let word = word_of(word, reading, amount);
-            let outcome = if left > 1 {
-                Outcome::UnderWay
-            } else if shelf.commit(object, reading, word) {
+        (JobState::Resting, _) => Outcome::UnderWay,
+        (_, Step::Compute { .. }) => Outcome::UnderWay,
+        (_, Step::Access { object, .. }) => {
+            if ticks_left(state) > 1 {
+                return Outcome::UnderWay;
+            }
+            if shelf.commit(object, reading, word) {
                 Outcome::Accepted
             } else {
                 Outcome::Refused
-            };
-            Attempt {
-                reading,
-                word,
-                outcome,
             }
         }
     }
 }
 
-// One tick of a job in its present step of its plan.
-pub(crate) fn advance<S: Shelf>(shelf: &mut S, job: &mut Job, step: Step, plan: &[Step]) -> Event
+// One tick of a job in its present step, which the step `next` comes after.
+pub(crate) fn advance<S: Shelf>(
+    shelf: &mut S,
+    job: &mut Job,
+    step: Step,
+    next: Option<Step>,
+) -> Event
     requires { job.old.step < 8 }
-    ensures job { job.new ≡ (turn (S.Shelf.model shelf.old) job.old step (slice_get plan.now (job.old.step + 1))).job }
-    ensures event { result ≡ (turn (S.Shelf.model shelf.old) job.old step (slice_get plan.now (job.old.step + 1))).event }
-    ensures shelf { S.Shelf.model shelf.new ≡ (turn (S.Shelf.model shelf.old) job.old step (slice_get plan.now (job.old.step + 1))).model }
+    ensures job { job.new ≡ (turn (S.Shelf.model shelf.old) job.old step next).job }
+    ensures event { result ≡ (turn (S.Shelf.model shelf.old) job.old step next).event }
+    ensures shelf { S.Shelf.model shelf.new ≡ (turn (S.Shelf.model shelf.old) job.old step next).model }
 {
-    let state = job.state;
-    let left = ticks_left(state);
-    let Attempt {
-        reading,
-        word,
-        outcome,
-    } = make_attempt(shelf, state, step);
-    match (state, step, outcome) {
+    let left = ticks_left(job.state);
+    let reading = reading_for(shelf, job.state, step);
+    let word = word_for(step, reading);
+    let outcome = commit_if_due(shelf, job.state, step, reading, word);
+    match (job.state, step, outcome) {
         (JobState::Resting, _, _) => Event::Idle,
         (_, Step::Compute { .. }, _) => {
             if left > 1 {
                 job.state = JobState::Computing { left: left - 1 };
             } else {
+                job.state = start_of(next);
                 job.step += 1;
-                job.state = start_of(step_at(plan, job.step));
             }
             Event::Computed
         }
@@ -170,8 +154,8 @@ pub(crate) fn advance<S: Shelf>(shelf: &mut S, job: &mut Job, step: Step, plan: 
             Event::Attempted
         }
         (_, Step::Access { object, .. }, Outcome::Accepted) => {
+            job.state = start_of(next);
             job.step += 1;
-            job.state = start_of(step_at(plan, job.step));
             Event::Committed { object, word }
         }
         (_, Step::Access { ticks, object, .. }, Outcome::Refused) => {

@@ -7,11 +7,11 @@ ghost use Rattle.admission.specs.Held.{held};
 ghost use Rattle.admission.specs.Tables.{plan_at};
 ghost use Rattle.std.specs.List.{slice_get};
 
-use crate::advance::{advance, is_pending, start_of, step_at};
+use crate::advance::{advance, is_pending, start_of};
 use crate::job::{Event, Job, JobState, Sums, Ticked};
 use crate::tally::Tally;
 use crate::token::BatchToken;
-use crate::urgency::{count_pending, most_urgent};
+use crate::urgency::{count_pending, next_place};
 use admission::refusal::Refusal;
 use admission::table::AdoptedTable;
 use admission::task::{Segment, Task};
@@ -208,7 +208,7 @@ impl<S: Shelf> Controller<S> {
         if is_pending(job.state) {
             return Err(Refusal::Unfinished);
         }
-        let state = start_of(step_at(self.core.table.plan(place), 0));
+        let state = start_of(self.core.table.step(place, 0));
         self.core.jobs[place] = Job {
             state,
             step: 0,
@@ -230,7 +230,7 @@ impl<S: Shelf> Controller<S> {
             return Err(Refusal::ClockEnd);
         }
         let table = &self.core.table;
-        match most_urgent(table.rule(), table.tasks(), table.order(), &self.core.jobs) {
+        match next_place(table.rule(), table.tasks(), table.order(), &self.core.jobs) {
             None => Ok(self.core.idle()),
             Some(place) => Ok(self.work(place)),
         }
@@ -246,11 +246,11 @@ impl<S: Shelf> Controller<S> {
         ensures running { self.new.core.running ≡ self.old.core.running }
     {
         let index = self.core.jobs[place].step;
-        let plan = self.core.table.plan(place);
-        let Some(step) = step_at(plan, index) else {
+        let Some(step) = self.core.table.step(place, index) else {
             return self.core.idle();
         };
-        let event = advance(&mut self.shelf, &mut self.core.jobs[place], step, plan);
+        let next = self.core.table.step(place, index + 1);
+        let event = advance(&mut self.shelf, &mut self.core.jobs[place], step, next);
         self.core.count(place, event)
     }
 

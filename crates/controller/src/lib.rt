@@ -1,4 +1,6 @@
 // The controller: it owns a shelf of shared objects, takes task tables, and runs their jobs tick by tick.
+#![tactic(auto)]
+
 pub mod advance;
 pub mod controller;
 pub mod job;

@@ -1,6 +1,6 @@
 -- The potential of a level of urgency: the ticks that its jobs still owe, with the attempts that they may have to make
 -- again, and the time since a moment q, are covered by what was released since q.
-use Rattle.std.proofs.Common.{◌≡◌, ℕ, ◌+◌, ◌*◌, ◌<◌, ◌≤◌, Bool, true, false, cond, ◌&&◌, ltb, leb, ◌⊎◌, List, [], length, Some, sym, ◌∙◌, inl, inr, mul-le-mul_right, mul-le-mul_left, arith}
+use Rattle.std.proofs.Common.{◌≡◌, ℕ, ◌+◌, ◌*◌, ◌<◌, ◌≤◌, Bool, true, false, cond, ◌&&◌, ltb, leb, ◌⊎◌, List, length, Some, sym, ◌∙◌, inl, inr, mul-le-mul_right, mul-le-mul_left, arith}
 use Rattle.std.proofs.lemmas.Bool.{cases_eq, cases_Bool, cases_lt, cond-true, cond-false, both_ways, and_parts, and_from, and_left, and_right, ltb-true, leb-true, lt-ltb, le-ltb, le-leb}
 use Rattle.admission.specs.declared.plan.AdoptedTask.{AdoptedTask}
 use Rattle.admission.specs.Search.{sum_below}

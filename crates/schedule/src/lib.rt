@@ -1,5 +1,7 @@
 // Why a table that is taken keeps its deadlines. Each function here carries theorems: its contract states them of every
 // table and every run, and the function itself does nothing. docs/SCHEDULE.md explains the argument.
+#![tactic(auto)]
+
 ghost use Rattle.std.specs.Prelude.{◌≡◌};
 ghost use Rattle.admission.specs.declared.plan.Rule.{Rule};
 ghost use Rattle.schedule.specs.Batches.{ByRank, ByDeadline, order_of};

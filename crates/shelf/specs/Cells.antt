@@ -1,5 +1,5 @@
 -- What a cell means: object 0, whose content is one number. The number is the reading, and a word replaces it.
-use Rattle.std.specs.Prelude.{ℕ, cond, List, [], ◌∷◌, ◌==◌, slice_index}
+use Rattle.std.specs.Prelude.{ℕ, cond, [], ◌∷◌, ◌==◌, slice_index}
 use Rattle.shelf.specs.Models.{Rules, Model}
 
 abbrev pub cell_rules : Rules

@@ -1,5 +1,5 @@
 -- What two shelves side by side mean: number 2k names object k of the first, 2k + 1 names object k of the second.
-use Rattle.std.specs.Prelude.{ℕ, ◌/◌, ◌%◌, Bool, cond, ◌&&◌, ◌==◌, nat_le}
+use Rattle.std.specs.Prelude.{ℕ, ◌/◌, ◌%◌, cond, ◌&&◌, ◌==◌, nat_le}
 use Rattle.shelf.specs.Models.{Rules, Model}
 
 -- what the first shelf has for an even number, what the second has for an odd one

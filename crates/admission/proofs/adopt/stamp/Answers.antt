@@ -1,4 +1,4 @@
-use Rattle.std.proofs.Common.{get_or, sym, ◌∙◌, arith}
+use Rattle.std.proofs.Common.{get_or, arith}
 use Rattle.std.proofs.lemmas.List.FromFn.{fill_by_all}
 use Rattle.admission.specs.Tables.{no_task, no_adopted_task}
 use Rattle.admission.specs.Verdicts.{stamp_of}

@@ -4,8 +4,8 @@ use Rattle.admission.proofs.demand.demand_within.Goals as goal
 
 pub loop-task-preserved : goal.loop-task-preserved
 loop-task-preserved c = (
-  sum_more _ _ _ _ c.loop-task.invariant.0 c.share-more-work.ensures.work,
-  sum_more _ _ _ _ c.loop-task.invariant.1 c.share-more-work.ensures.charge,
+  sum_more _ _ _ _ c.loop-task.invariant.0 c.share-more_work.ensures.work,
+  sum_more _ _ _ _ c.loop-task.invariant.1 c.share-more_work.ensures.charge,
   omega arith,
   omega arith,
 )

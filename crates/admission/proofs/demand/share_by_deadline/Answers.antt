@@ -6,8 +6,8 @@ pub returns : goal.returns
 returns c =
     let task = c.args.task.now in
     let reach = c.args.t + task.period - task.deadline in
-    let jobs = c.periods-in-jobs.ensures.whole in
-    let before = c.periods-in-jobs.ensures.less in
+    let jobs = c.periods_in-jobs.ensures.whole in
+    let before = c.periods_in-jobs.ensures.less in
     record {
       work = ap (λ (n : ℕ). n * task.cost) jobs;
       charge = ap (λ (n : ℕ). n * c.args.attempt) before;

@@ -1,4 +1,4 @@
-use Rattle.std.proofs.Common.{◌≡◌, ℕ, ◌+◌, ◌-◌, ◌*◌, ◌/◌, ◌≤◌, sym, ap, ◌∙◌, subst, arith, rules}
+use Rattle.std.proofs.Common.{◌≡◌, ℕ, ◌+◌, ◌-◌, ◌*◌, ◌/◌, ◌≤◌, sym, ap, ◌∙◌, subst, arith}
 use Rattle.std.proofs.lemmas.Bool.{le-leb, lt-ltb, le-ltb}
 use Rattle.admission.proofs.Bounds.{jobs_small}
 use Rattle.admission.proofs.demand.share_by_rank.Goals as goal
@@ -6,7 +6,7 @@ use Rattle.admission.proofs.demand.share_by_rank.Goals as goal
 pub returns-then-task-rank-2 : goal.returns-then-task-rank-2
 returns-then-task-rank-2 c =
     let task = c.args.task.now in
-    let jobs = c.periods-in-jobs.ensures.whole in
+    let jobs = c.periods_in-jobs.ensures.whole in
     record {
       work = rw (le-leb task.rank c.args.rank (omega arith)) (ap (λ (n : ℕ). n * task.cost) jobs);
       charge = rw (le-ltb task.rank c.args.rank (omega arith));
@@ -20,9 +20,9 @@ pub returns : goal.returns
 returns c =
     let task = c.args.task.now in
     let t = c.args.t in
-    let jobs = c.periods-in-jobs.ensures.whole in
+    let jobs = c.periods_in-jobs.ensures.whole in
     let sooner : t + (task.period - 1) - 1 ≡ t - 1 + (task.period - 1) = omega arith in
-    let before = c.periods-in-jobs.ensures.less ∙ ap (λ (n : ℕ). n / task.period) sooner in
+    let before = c.periods_in-jobs.ensures.less ∙ ap (λ (n : ℕ). n / task.period) sooner in
     record {
       work = rw (le-leb task.rank c.args.rank (omega arith)) (ap (λ (n : ℕ). n * task.cost) jobs);
       charge = rw (lt-ltb task.rank c.args.rank (omega arith)) (ap (λ (n : ℕ). n * c.args.attempt) before);

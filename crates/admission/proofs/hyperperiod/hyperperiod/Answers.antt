@@ -6,8 +6,8 @@ use Rattle.admission.proofs.hyperperiod.hyperperiod.Goals as goal
 pub loop-task-init : goal.loop-task-init
 loop-task-init c = (omega arith, hyperperiod_none c.args.tasks.now)
 
-pub returns-then-multiple-gt-MAX-HYPERPERIOD : goal.returns-then-multiple-gt-MAX-HYPERPERIOD
-returns-then-multiple-gt-MAX-HYPERPERIOD c =
+pub returns-then-multiple-gt-MAX_HYPERPERIOD : goal.returns-then-multiple-gt-MAX_HYPERPERIOD
+returns-then-multiple-gt-MAX_HYPERPERIOD c =
     let tasks = c.args.tasks.now in
     let h = hyperperiod_more tasks c.loop-task.task-index c.loop-task.multiple _ c.loop-task.invariant.1 c.lcm-multiple.ensures.positive c.lcm-multiple.ensures.is in
     record { is = sym (hyperperiod_long tasks _ _ (omega arith) (omega arith) h); least = tt }

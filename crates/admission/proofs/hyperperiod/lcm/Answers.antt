@@ -1,8 +1,8 @@
 use Rattle.admission.proofs.Divisors.{gcd_pos, lcm_is, lcm_pos}
 use Rattle.admission.proofs.hyperperiod.lcm.Goals as goal
 
-pub nonzero-div-result : goal.nonzero-div-result
-nonzero-div-result c = gcd_pos c.args.a c.args.b c.gcd.result c.requires.0 c.gcd.ensures
+pub nonzero_div-result : goal.nonzero_div-result
+nonzero_div-result c = gcd_pos c.args.a c.args.b c.gcd.result c.requires.0 c.gcd.ensures
 
 pub returns : goal.returns
 returns c =

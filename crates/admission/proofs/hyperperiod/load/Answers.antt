@@ -4,8 +4,8 @@ use Rattle.admission.proofs.Bounds.{jobs_small}
 use Rattle.admission.proofs.Ranges.{sum_more, sum_all}
 use Rattle.admission.proofs.hyperperiod.load.Goals as goal
 
-pub overflow-add-sum-in-loop-task : goal.overflow-add-sum-in-loop-task
-overflow-add-sum-in-loop-task c =
+pub overflow_add-sum-in-loop-task : goal.overflow_add-sum-in-loop-task
+overflow_add-sum-in-loop-task c =
     let task = get_or c.args.tasks.now c.loop-task.task-index no_adopted_task in
     let l = c.requires.1.0 c.loop-task.task-index c.loop-task-test.true in
     let s = jobs_small c.args.hyperperiod task.period (task.cost + c.args.attempt) 800065 (omega arith) (omega (arith, l.2.1)) in

@@ -3,8 +3,8 @@ use Rattle.admission.proofs.Parts.{turn, turns_end, cost_more, cost_all}
 use Rattle.admission.specs.Lengths.{owned, ticks_of}
 use Rattle.admission.proofs.length.job_cost.Goals as goal
 
-pub overflow-add-sum : goal.overflow-add-sum
-overflow-add-sum c =
+pub overflow_add-sum : goal.overflow_add-sum
+overflow_add-sum c =
     let t = turn c.args.segments.now c.args.task.now c.loop-segment.segment-index c.requires c.loop-segment-test.true in
     omega (arith, t.below, t.limits.few)
 

@@ -5,7 +5,7 @@ use Rattle.admission.proofs.length.longest_attempt.Goals as goal
 pub loop-task-preserved : goal.loop-task-preserved
 loop-task-preserved c =
     let e = attempt_more c.args.segments.now c.args.tasks.now c.loop-task.task-index c.loop-task-test.true in
-    (omega (arith, e, c.task-attempt.ensures.is), omega (arith, c.task-attempt.ensures.short))
+    (omega (arith, e, c.task_attempt.ensures.is), omega (arith, c.task_attempt.ensures.short))
 
 pub returns : goal.returns
 returns c =

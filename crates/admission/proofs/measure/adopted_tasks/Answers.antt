@@ -7,7 +7,7 @@ use Rattle.admission.proofs.measure.adopted_tasks.Goals as goal
 pub loop-place-preserved : goal.loop-place-preserved
 loop-place-preserved c = (
   simp length-set c.loop-place.invariant.0,
-  fill_listed _ _ _ _ (omega arith) c.loop-place.invariant.1 c.adopted-task.ensures,
+  fill_listed _ _ _ _ (omega arith) c.loop-place.invariant.1 c.adopted_task.ensures,
 )
 
 pub returns : goal.returns

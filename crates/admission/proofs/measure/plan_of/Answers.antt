@@ -9,8 +9,8 @@ loop-k-preserved c =
     let part = drop c.args.task.now.first c.args.segments.now in
     let inside : c.loop-k.k < length part = simp length-drop (omega arith) in (
       simp length-set c.loop-k.invariant.0,
-      fill_image step_of c.loop-k.steps part no_segment c.loop-k.k c.step-of.result (omega arith) inside c.loop-k.invariant.1
-          (c.step-of.ensures ∙ ap step_of (sym (get_or-drop c.args.task.now.first c.args.segments.now c.loop-k.k no_segment))),
+      fill_image step_of c.loop-k.steps part no_segment c.loop-k.k c.step_of.result (omega arith) inside c.loop-k.invariant.1
+          (c.step_of.ensures ∙ ap step_of (sym (get_or-drop c.args.task.now.first c.args.segments.now c.loop-k.k no_segment))),
     )
 
 pub returns : goal.returns

@@ -1,4 +1,4 @@
-use Rattle.std.proofs.Common.{◌≡◌, ℕ, List, map, take, sym, ap, ◌∙◌, subst, arith}
+use Rattle.std.proofs.Common.{ℕ, List, map, take, ap, ◌∙◌, arith}
 use Rattle.std.proofs.lemmas.List.{length-set, take_all}
 use Rattle.admission.specs.declared.task.Task.{Task}
 use Rattle.admission.specs.declared.plan.Step.{Step}
@@ -10,7 +10,7 @@ use Rattle.admission.proofs.measure.plans_of.Goals as goal
 pub loop-place-preserved : goal.loop-place-preserved
 loop-place-preserved c = (
   simp length-set c.loop-place.invariant.0,
-  fill_mapped steps_in (λ (task : Task). map step_of (owned c.args.segments.now task)) c.loop-place.all c.args.tasks.now no_task c.loop-place.place _ (omega arith) (omega arith) c.loop-place.invariant.1 c.plan-of.ensures,
+  fill_mapped steps_in (λ (task : Task). map step_of (owned c.args.segments.now task)) c.loop-place.all c.args.tasks.now no_task c.loop-place.place _ (omega arith) (omega arith) c.loop-place.invariant.1 c.plan_of.ensures,
 )
 
 pub returns : goal.returns

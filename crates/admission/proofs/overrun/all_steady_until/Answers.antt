@@ -9,11 +9,11 @@ pub loop-task-preserved : goal.loop-task-preserved
 loop-task-preserved c =
     let tasks = c.args.tasks.now in
     let until = c.min-until.result in (
-      omega (arith, c.min-until.ensures, c.steady-until.ensures.later),
+      omega (arith, c.min-until.ensures, c.steady_until.ensures.later),
       omega (arith, c.min-until.ensures),
       λ a l.
           elim (cases_eq a c.loop-task.task-index) [
-            | inl e ↦ subst (λ (k : ℕ). Steady (get_or tasks k no_adopted_task) c.args.t until) (sym e) (steady_sooner (get_or tasks c.loop-task.task-index no_adopted_task) _ _ _ (omega (arith, c.min-until.ensures)) c.steady-until.ensures.steady)
+            | inl e ↦ subst (λ (k : ℕ). Steady (get_or tasks k no_adopted_task) c.args.t until) (sym e) (steady_sooner (get_or tasks c.loop-task.task-index no_adopted_task) _ _ _ (omega (arith, c.min-until.ensures)) c.steady_until.ensures.steady)
             | inr d ↦ steady_sooner (get_or tasks a no_adopted_task) _ _ _ (omega (arith, c.min-until.ensures)) (c.loop-task.invariant.2 a (omega arith))
           ],
     )

@@ -1,28 +1,27 @@
-use Rattle.std.proofs.Common.{ℕ, ◌≤◌, sym, ◌∙◌, arith}
+use Rattle.std.proofs.Common.{sym, ◌∙◌, arith}
 use Rattle.std.proofs.lemmas.Bool.{not-true}
-use Rattle.admission.specs.Demand.{demand_by_deadline}
 use Rattle.admission.proofs.Firsts.{none_from}
 use Rattle.admission.proofs.Plateaus.{enough_until, overrun_is, overrun_none}
 use Rattle.admission.proofs.overrun.first_overrun.Goals as goal
 
-pub returns-then-is-enough : goal.returns-then-is-enough
-returns-then-is-enough c = sym (none_from _ (not-true _ (sym c.is-enough.ensures ∙ c.if-is-enough.true)))
+pub returns-then-is_enough : goal.returns-then-is_enough
+returns-then-is_enough c = sym (none_from _ (not-true _ (sym c.is_enough.ensures ∙ c.if-is_enough.true)))
 
 pub loop-t-preserved : goal.loop-t-preserved
 loop-t-preserved c = (
   omega arith,
   omega arith,
-  enough_until c.args.attempt c.args.tasks.now c.loop-t.t _ c.all-steady-until-next.ensures.steady c.loop-t.invariant.2
-      (omega (arith, c.demand-within-work.ensures.work, c.demand-within-work.ensures.charge, c.if-work-charge.false)),
+  enough_until c.args.attempt c.args.tasks.now c.loop-t.t _ c.all_steady_until-next.ensures.steady c.loop-t.invariant.2
+      (omega (arith, c.demand_within-work.ensures.work, c.demand_within-work.ensures.charge, c.if-work-charge.false)),
 )
 
 pub returns-then-work-charge : goal.returns-then-work-charge
 returns-then-work-charge c =
     sym (overrun_is c.args.attempt c.args.tasks.now c.args.hyperperiod c.loop-t.t c.loop-t.invariant.0 c.loop-t.invariant.1
-    (omega (arith, c.demand-within-work.ensures.work, c.demand-within-work.ensures.charge, c.if-work-charge.true)) c.loop-t.invariant.2)
+    (omega (arith, c.demand_within-work.ensures.work, c.demand_within-work.ensures.charge, c.if-work-charge.true)) c.loop-t.invariant.2)
 
 pub returns-then-next-hyperperiod : goal.returns-then-next-hyperperiod
 returns-then-next-hyperperiod c =
-    let h = enough_until c.args.attempt c.args.tasks.now c.loop-t.t _ c.all-steady-until-next.ensures.steady c.loop-t.invariant.2
-    (omega (arith, c.demand-within-work.ensures.work, c.demand-within-work.ensures.charge, c.if-work-charge.false)) in
+    let h = enough_until c.args.attempt c.args.tasks.now c.loop-t.t _ c.all_steady_until-next.ensures.steady c.loop-t.invariant.2
+    (omega (arith, c.demand_within-work.ensures.work, c.demand_within-work.ensures.charge, c.if-work-charge.false)) in
     sym (overrun_none c.args.attempt c.args.tasks.now c.args.hyperperiod (λ u a b. h u a (omega arith)))

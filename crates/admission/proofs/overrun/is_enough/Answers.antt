@@ -1,4 +1,4 @@
-use Rattle.std.proofs.Common.{ℕ, ◌<◌, ◌≤◌, not, is_some, Option, sym, ap, arith}
+use Rattle.std.proofs.Common.{ℕ, ◌≤◌, not, is_some, Option, sym, ap, arith}
 use Rattle.admission.specs.Demand.{demand_by_deadline}
 use Rattle.admission.proofs.Plateaus.{enough_down, overrun_none, overrun_some}
 use Rattle.admission.proofs.overrun.is_enough.Goals as goal
@@ -10,17 +10,17 @@ pub loop-t-preserved : goal.loop-t-preserved
 loop-t-preserved c =
     let attempt = c.args.attempt in
     let tasks = c.args.tasks.now in
-    let enough : demand_by_deadline attempt tasks c.loop-t.t ≤ c.loop-t.t = omega (arith, c.demand-within-work.ensures.work, c.demand-within-work.ensures.charge, c.if-needed-t.false) in (
-      omega (arith, c.saturating-sub-t.ensures, c.if-needed-t.false, c.loop-t.invariant.0),
+    let enough : demand_by_deadline attempt tasks c.loop-t.t ≤ c.loop-t.t = omega (arith, c.demand_within-work.ensures.work, c.demand_within-work.ensures.charge, c.if-needed-t.false) in (
+      omega (arith, c.saturating_sub-t.ensures, c.if-needed-t.false, c.loop-t.invariant.0),
       (λ u a b.
           enough_down attempt tasks c.loop-t.t c.args.end c.requires.1.0 enough c.loop-t.invariant.1 u
-          (omega (arith, a, c.saturating-sub-t.ensures, c.demand-within-work.ensures.work, c.demand-within-work.ensures.charge)) b),
+          (omega (arith, a, c.saturating_sub-t.ensures, c.demand_within-work.ensures.work, c.demand_within-work.ensures.charge)) b),
     )
 
 pub returns-then-needed-t : goal.returns-then-needed-t
 returns-then-needed-t c =
     sym (overrun_some c.args.attempt c.args.tasks.now c.args.end c.loop-t.t (omega arith) c.loop-t.invariant.0
-    (omega (arith, c.demand-within-work.ensures.work, c.demand-within-work.ensures.charge, c.if-needed-t.true)))
+    (omega (arith, c.demand_within-work.ensures.work, c.demand_within-work.ensures.charge, c.if-needed-t.true)))
 
 pub returns : goal.returns
 returns c =

@@ -1,4 +1,4 @@
-use Rattle.std.proofs.Common.{◌+◌, ◌-◌, ◌%◌, ◌<◌, mod-lt, arith}
+use Rattle.std.proofs.Common.{◌+◌, ◌-◌, mod-lt, arith}
 use Rattle.admission.proofs.Plateaus.{steady_between, steady_tick}
 use Rattle.admission.proofs.overrun.steady_until.Goals as goal
 

@@ -11,6 +11,6 @@ returns c =
     let tasks = c.args.tasks.now in
     let no = deadlines_no c.args.attempt tasks in
     let p = unwrap_or (hyperperiod_of tasks) 0 in
-    let e = sym c.test-by-deadline.ensures ∙ c.in-ok-answer.was in
-    passes_by_deadline c.args.rule c.args.attempt tasks (omega arith) c.in-ok-answer.answer
-    (sym c.if-is-by-rank.ensures) (unless_ok no p c.in-ok-answer.answer e) (unless_value no p c.in-ok-answer.answer e)
+    let e = sym c.test_by_deadline.ensures ∙ c.in_ok-answer.was in
+    passes_by_deadline c.args.rule c.args.attempt tasks (omega arith) c.in_ok-answer.answer
+    (sym c.if-is_by_rank.ensures) (unless_ok no p c.in_ok-answer.answer e) (unless_value no p c.in_ok-answer.answer e)

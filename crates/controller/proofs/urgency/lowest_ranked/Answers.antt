@@ -10,14 +10,14 @@ loop-rank-init c = λ r l. absurd (omega arith)
 
 pub loop-rank-preserved : goal.loop-rank-preserved
 loop-rank-preserved c =
-    none_more c.args.tasks.now c.args.order.now (pending_at c.args.jobs.now) c.loop-rank.rank c.loop-rank.invariant (sym c.if-is-pending.ensures)
+    none_more c.args.tasks.now c.args.order.now (pending_at c.args.jobs.now) c.loop-rank.rank c.loop-rank.invariant (sym c.if-is_pending.ensures)
 
-pub returns-then-is-pending : goal.returns-then-is-pending
-returns-then-is-pending c =
+pub returns-then-is_pending : goal.returns-then-is_pending
+returns-then-is_pending c =
     let tasks = c.args.tasks.now in
     let order = c.args.order.now in
     let jobs = c.args.jobs.now in
-    let best = best_ranked tasks order (pending_at jobs) c.requires.1.1 c.loop-rank.rank (omega (arith, c.loop-rank-test.true, c.requires.1.0)) c.loop-rank.invariant (sym c.if-is-pending.ensures) in
+    let best = best_ranked tasks order (pending_at jobs) c.requires.1.1 c.loop-rank.rank (omega (arith, c.loop-rank-test.true, c.requires.1.0)) c.loop-rank.invariant (sym c.if-is_pending.ensures) in
     record {
       is = best_chosen (pending_at jobs) (λ place. ((get_or tasks place no_adopted_task).rank, 0)) (length tasks) (Some (get_or order c.loop-rank.rank 0)) best;
       inside = best.0;

@@ -24,7 +24,7 @@ returns g c =
     let yes = token_in ts (vec_len c.args.tokens.now) c.args.which len (omega arith) in
     let good = token_good ts (vec_len c.args.tokens.now) c.args.which c.remove-token.result len (omega arith) c.remove-token.ensures.value in
     record {
-      answer = close_answer_lem m (goods ts) c.args.which c.remove-token.result.good _ yes good (c.close-answer.ensures ∙ ap close_answer_of c.close.ensures.answer);
+      answer = close_answer_lem m (goods ts) c.args.which c.remove-token.result.good _ yes good (c.close_answer.ensures ∙ ap close_answer_of c.close.ensures.answer);
       machine = close_after m (goods ts) c.args.which c.remove-token.result.good _ yes good c.close.ensures.machine;
       held = close_held m (goods ts) c.args.which _ yes (token_gone ts _ c.args.which c.remove-token.ensures.by_index.2);
       room = (omega arith, c.remove-token.ensures.capacity);

@@ -8,8 +8,8 @@ pub returns : goal.returns
 returns g c =
     let m = machine (g.S.Shelf.model c.args.controller.now.shelf) c.args.controller.now.core in
     record {
-      answer = c.open-answer.ensures ∙ ap open_answer_of c.open-opened.ensures.answer;
+      answer = c.open_answer.ensures ∙ ap open_answer_of c.open-opened.ensures.answer;
       machine = c.open-opened.ensures.machine;
-      held = open_held m (vec_items c.args.tokens.now) (vec_items c.push-reserved.new.self) c.open-opened.result.1 c.push-reserved.ensures.items c.open-opened.ensures.token;
-      room = (omega arith, c.push-reserved.ensures.capacity);
+      held = open_held m (vec_items c.args.tokens.now) (vec_items c.push_reserved.new.self) c.open-opened.result.1 c.push_reserved.ensures.items c.open-opened.ensures.token;
+      room = (omega arith, c.push_reserved.ensures.capacity);
     }

@@ -29,17 +29,17 @@ loop-call-preserved g c =
     let ds = c.loop-call.calls in
     let h : i < length cs = omega arith in
     let l : i < length ds = omega arith in (
-      loop_more (new_machine (g.S.Shelf.model c.new-controller.result.shelf)) cs ds (vec_items c.loop-call.answers) (vec_items c.push-reserved.new.self)
+      loop_more (new_machine (g.S.Shelf.model c.new-controller.result.shelf)) cs ds (vec_items c.loop-call.answers) (vec_items c.push_reserved.new.self)
           (machine (g.S.Shelf.model c.loop-call.controller.shelf) c.loop-call.controller.core)
           (machine (g.S.Shelf.model c.perform-answer.new.controller.shelf) c.perform-answer.new.controller.core)
           (goods (vec_items c.loop-call.tokens)) (goods (vec_items c.perform-answer.new.tokens))
           i (get_or ds i c.call-item.result) c.perform-answer.new.call c.perform-answer.result
           c.loop-call.invariant.0 h l c.loop-call.invariant.1 (ap (λ (x : Call). get_or ds i x) c.call-item.is)
           c.perform-answer.ensures.answer c.perform-answer.ensures.machine c.perform-answer.ensures.held c.perform-answer.ensures.lists
-          c.push-reserved.ensures.items,
+          c.push_reserved.ensures.items,
       loop_rest cs ds i c.call-item.result c.perform-answer.new.call h l c.loop-call.invariant.1,
-      omega (arith, c.push-reserved.ensures.len, c.loop-call.invariant.2),
-      omega (arith, c.push-reserved.ensures.capacity, c.loop-call.invariant.3),
+      omega (arith, c.push_reserved.ensures.len, c.loop-call.invariant.2),
+      omega (arith, c.push_reserved.ensures.capacity, c.loop-call.invariant.3),
       omega (arith, c.perform-answer.ensures.room.0, c.loop-call.invariant.4),
       omega (arith, c.perform-answer.ensures.room.1, c.loop-call.invariant.5),
     )

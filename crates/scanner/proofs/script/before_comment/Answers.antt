@@ -5,9 +5,9 @@ use Rattle.scanner.proofs.script.before_comment.Goals as goal
 pub returns-in-Some : goal.returns-in-Some
 returns-in-Some c =
     let parts =
-    split_parts 35 c.args.text.now (Some (c.in-Some.before, c.in-Some.-comment)) c.in-Some.ensures.cases (omega arith)
+    split_parts 35 c.args.text.now (Some (c.in-Some.before, c.in-Some._comment)) c.in-Some.ensures.cases (omega arith)
     in
-    (parts.1, inr (c.in-Some.-comment.now, parts.0))
+    (parts.1, inr (c.in-Some._comment.now, parts.0))
 
 pub returns-in-None : goal.returns-in-None
 returns-in-None c = (split_parts 35 c.args.text.now None c.in-None.ensures.cases (omega arith), inl refl)

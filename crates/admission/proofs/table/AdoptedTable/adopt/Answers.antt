@@ -8,9 +8,9 @@ use Rattle.admission.proofs.table.AdoptedTable.adopt.Goals as goal
 
 pub returns : goal.returns
 returns g c =
-    let table = c.in-ok-decision.decision.table in
+    let table = c.in_ok-decision.decision.table in
     let tasks = c.args.tasks.now in
-    let v = c.in-ok-decision.ensures in
+    let v = c.in_ok-decision.ensures in
     record {
       answer = ap (λ (n : ℕ). Ok n) v.1 ∙ ap answered (sym v.0);
       table = ap (λ (r : Result Table Refusal). held_after r (held c.args.self.now)) (sym v.0);

@@ -1,6 +1,6 @@
-use Rattle.std.proofs.Common.{◌≡◌, ℕ, ◌-◌, ◌<◌, ◌≤◌, List, length, get_or, take, sym, ap, ◌∙◌, subst, arith}
+use Rattle.std.proofs.Common.{◌≡◌, ℕ, ◌-◌, ◌≤◌, List, length, get_or, take, sym, ap, ◌∙◌, subst, arith}
 use native.Mathlib.Nat.{sub-zero}
-use Rattle.std.proofs.lemmas.List.{length-take, length-take-le, get_or-take}
+use Rattle.std.proofs.lemmas.List.{length-take, get_or-take}
 use Rattle.admission.specs.declared.plan.AdoptedTask.{AdoptedTask}
 use Rattle.admission.specs.Tables.{no_adopted_task}
 use Rattle.admission.specs.Limits.{AdoptedLimits}
@@ -9,8 +9,8 @@ use Rattle.admission.specs.Held.{held}
 use Rattle.admission.proofs.Asking.{demanded_is}
 use Rattle.admission.proofs.table.AdoptedTable.demand.Goals as goal
 
-pub demand-within-requires : goal.demand-within-requires
-demand-within-requires c =
+pub demand_within-requires : goal.demand_within-requires
+demand_within-requires c =
     let self = c.args.self.now in
     let e : take (self.count - 0) self.tasks ≡ take self.count self.tasks = ap (λ (n : ℕ). take n self.tasks) (sub-zero self.count) in
     let few : length (take (self.count - 0) self.tasks) ≤ 32 = simp length-take (omega arith) in
@@ -24,8 +24,8 @@ returns c =
     let place = c.args.place in
     let rank = (get_or self.tasks place no_adopted_task).rank in
     let e : take (self.count - 0) self.tasks ≡ take self.count self.tasks = ap (λ (n : ℕ). take n self.tasks) (sub-zero self.count) in
-    demanded_is (held self) place c.args.t rank c.demand-within.result
+    demanded_is (held self) place c.args.t rank c.demand_within.result
     (simp length-take (omega arith)) (omega arith) (omega arith)
     (ap (λ (x : AdoptedTask). x.rank) (sym (get_or-take self.count self.tasks place no_adopted_task (omega arith))))
-    (c.demand-within.ensures.work ∙ ap (λ (xs : List AdoptedTask). work_within self.rule xs rank c.args.t) e)
-    (c.demand-within.ensures.charge ∙ ap (λ (xs : List AdoptedTask). charge_within self.rule self.attempt xs rank c.args.t) e)
+    (c.demand_within.ensures.work ∙ ap (λ (xs : List AdoptedTask). work_within self.rule xs rank c.args.t) e)
+    (c.demand_within.ensures.charge ∙ ap (λ (xs : List AdoptedTask). charge_within self.rule self.attempt xs rank c.args.t) e)

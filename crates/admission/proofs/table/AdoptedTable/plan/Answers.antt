@@ -1,6 +1,5 @@
-use Rattle.std.proofs.Common.{◌≡◌, ℕ, ◌-◌, ◌≤◌, List, length, get_or, take, sym, ap, ◌∙◌, arith}
+use Rattle.std.proofs.Common.{◌≡◌, ℕ, ◌-◌, get_or, take, sym, ap, ◌∙◌, arith}
 use Rattle.std.proofs.lemmas.List.{length-take-le}
-use Rattle.admission.specs.declared.plan.Step.{Step}
 use Rattle.admission.proofs.Looking.{plan_front, plan_after}
 use Rattle.admission.proofs.table.AdoptedTable.plan.Goals as goal
 

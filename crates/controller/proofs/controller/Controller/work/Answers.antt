@@ -1,8 +1,5 @@
-use Rattle.std.proofs.Common.{◌+◌, List, get_or, ap, ◌∙◌}
-use Rattle.std.specs.List.{slice_get}
-use Rattle.admission.specs.declared.plan.Step.{Step}
+use Rattle.std.proofs.Common.{◌∙◌}
 use Rattle.admission.specs.Held.{held}
-use Rattle.controller.specs.Choices.{no_job}
 use Rattle.controller.specs.Machines.{batch_in}
 use Rattle.controller.proofs.Working.{work_answer, work_batch, work_model}
 use Rattle.controller.proofs.controller.Controller.work.Goals as goal
@@ -11,10 +8,8 @@ pub returns : goal.returns
 returns g c =
     let model = g.S.Shelf.model c.args.self.now.shelf in
     let core = c.args.self.now.core in
-    let step = (get_or core.jobs c.args.place no_job).step in
-    let are = c.plan-plan.ensures.are in
-    let is = c.in-Some.ensures.is ∙ ap (λ (xs : List Step). slice_get xs step) are in
-    let follows = ap (λ (xs : List Step). slice_get xs (step + 1)) are in
+    let is = c.in-Some.ensures.is in
+    let follows = c.step-next.ensures.is in
     let j = c.advance-event.ensures.job in
     let e = c.advance-event.ensures.event in
     record {

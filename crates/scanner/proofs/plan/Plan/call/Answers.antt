@@ -5,4 +5,4 @@ use Rattle.scanner.proofs.plan.Plan.call.Goals as goal
 
 pub returns : goal.returns
 returns c =
-    one_more (draft c.args.self.now) (vec_items c.args.self.now.calls) (vec_items c.push.new.self) c.args.call c.in-ok-push.ensures.items
+    one_more (draft c.args.self.now) (vec_items c.args.self.now.calls) (vec_items c.push.new.self) c.args.call c.in_ok-push.ensures.items
