@@ -1,3 +1,5 @@
+#![tactic(auto)]
+
 ghost use Rattle.examples.specs.Worked.{WorkedExamples};
 
 // The worked examples hold of the definitions; it computes nothing.

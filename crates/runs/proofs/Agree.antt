@@ -1,5 +1,5 @@
 -- Ledger and controller agree, place by place, and the batch is a run of the theory.
-use Rattle.std.proofs.Common.{◌≡◌, ℕ, ◌+◌, ◌<◌, ◌≤◌, Bool, true, false, cond, not, List, [], ◌∷◌, length, get_or, Some, None, Option, sym, refl, ap, ◌∙◌, subst}
+use Rattle.std.proofs.Common.{◌≡◌, ℕ, ◌+◌, ◌<◌, ◌≤◌, Bool, not, List, length, get_or, Some, None, Option}
 use Rattle.shelf.specs.Models.{Model, reading_at}
 use Rattle.admission.specs.Tables.{Table, plan_at}
 use Rattle.schedule.specs.Batches.{order_of}
@@ -8,7 +8,7 @@ use Rattle.schedule.specs.Jobs.{MachineRun, is_at_rest}
 use Rattle.controller.specs.Choices.{no_job, pending_at}
 use Rattle.controller.specs.Machines.{Batch, Machine}
 use Rattle.runs.specs.Entries.{good_in}
-use Rattle.runs.specs.Ledger.{Booked, Book, Ledger, left_of, release_of, finished_in}
+use Rattle.runs.specs.Ledger.{Book, Ledger, left_of, release_of, finished_in}
 use Rattle.runs.specs.Laws.{EachJob}
 use Rattle.runs.proofs.Views.{view_of, left_in'}
 use Rattle.runs.proofs.Books.{releases_at, Latest, last_of}

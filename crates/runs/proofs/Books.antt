@@ -1,11 +1,11 @@
 -- The jobs of a batch as the ledger lists them, place by place.
-use Rattle.std.proofs.Common.{◌≡◌, ℕ, zero, suc, ◌+◌, ◌*◌, ◌<◌, ◌≤◌, Bool, true, false, cond, not, ◌&&◌, eqb, ltb, List, [], ◌∷◌, length, get_or, Some, None, Option, unwrap_or, sym, refl, ap, ◌∙◌, subst, inl, inr, arith}
-use Rattle.std.proofs.lemmas.Bool.{cases_Bool, cases_eq, both_ways, eq-eqb, ne_eqb, eqb-true, eqb-false, and_from, and_left, and_right, and_parts, not_from_true, not_from_false, cond-true, cond-false}
+use Rattle.std.proofs.Common.{◌≡◌, ℕ, zero, suc, ◌+◌, ◌<◌, ◌≤◌, true, false, cond, not, eqb, List, [], ◌∷◌, length, Some, None, Option, unwrap_or, sym, refl, ap, ◌∙◌, inl, inr, arith}
+use Rattle.std.proofs.lemmas.Bool.{cases_Bool, cases_eq, both_ways, eq-eqb, ne_eqb, eqb-true, eqb-false, and_right}
 use Rattle.admission.specs.declared.plan.Step.{Step}
 use Rattle.admission.specs.Search.{sum_below}
-use Rattle.admission.proofs.Ranges.{sum_same, sum_add, sum_zero, sum_le}
+use Rattle.admission.proofs.Ranges.{sum_add, sum_zero}
 use Rattle.schedule.specs.Batches.{newest, preemption}
-use Rattle.runs.specs.Ledger.{Booked, is_done, left_of, release_of, with_left, finished_in, pending_in, unfinished, preempts}
+use Rattle.runs.specs.Ledger.{Booked, is_done, left_of, release_of, with_left, finished_in, unfinished, preempts}
 use Rattle.runs.specs.Laws.{EachJob}
 
 -- the releases of a place, newest first

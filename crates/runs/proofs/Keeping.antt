@@ -1,27 +1,26 @@
 -- What holds of a batch wherever ledger and controller agree: deadlines are kept, retries and preemptions bounded.
-use Rattle.std.proofs.Common.{◌≡◌, ℕ, zero, suc, ◌+◌, ◌*◌, ◌<◌, ◌≤◌, Bool, true, false, cond, not, eqb, List, [], ◌∷◌, length, get_or, Some, None, Option, unwrap_or, sym, refl, ap, ◌∙◌, subst, inl, inr, mul-le-mul_right, arith}
+use Rattle.std.proofs.Common.{◌≡◌, ℕ, zero, suc, ◌+◌, ◌*◌, ◌<◌, ◌≤◌, Bool, true, false, cond, not, eqb, List, [], ◌∷◌, length, Some, None, Option, unwrap_or, sym, refl, ap, ◌∙◌, subst, inl, inr, arith}
 use Rattle.std.proofs.lemmas.Bool.{cases_Bool, both_ways, eq-eqb, eqb-true}
 use Rattle.shelf.specs.Models.{Model}
 use Rattle.admission.specs.Search.{sum_below, count_below}
 use Rattle.admission.specs.Tables.{Table, plan_at}
 use Rattle.admission.proofs.Ranges.{sum_same, sum_le}
-use Rattle.schedule.specs.Batches as theory
 use Rattle.schedule.specs.Batches.{Run, order_of, released_at, releases_of, task_at}
-use Rattle.schedule.specs.Jobs.{batch_of, needs, is_at_rest, JobFits}
+use Rattle.schedule.specs.Jobs.{batch_of, is_at_rest}
 use Rattle.schedule.specs.Theorems.{InTime, AllFit}
 use Rattle.schedule.proofs.Proved.{deadlines_kept, runs_of_records, order_asymmetric}
 use Rattle.schedule.proofs.Tallies.{retries_bounded_lem}
-use Rattle.schedule.proofs.Records.{needs_some, needs_none}
-use Rattle.controller.specs.Choices.{no_job, pending_at}
+use Rattle.schedule.proofs.Records.{needs_some}
+use Rattle.controller.specs.Choices.{pending_at}
 use Rattle.controller.specs.Machines.{Batch, Machine}
 use Rattle.controller.specs.Machines as machines
-use Rattle.runs.specs.Ledger.{Booked, Book, Ledger, is_done, left_of, release_of, finished_in, pending_in}
+use Rattle.runs.specs.Ledger.{Booked, Book, Ledger, is_done, left_of, release_of, pending_in}
 use Rattle.runs.specs.Entries.{good_in}
-use Rattle.runs.specs.Laws.{EachJob, OnTime, BatchKept, BookKept, Kept, is_open, sums_of}
-use Rattle.runs.proofs.Views.{left_in', done_rest}
+use Rattle.runs.specs.Laws.{EachJob, OnTime, BatchKept, BookKept, Kept, TokensKept, is_open, sums_of}
+use Rattle.runs.proofs.Views.{done_rest}
 use Rattle.runs.proofs.Books.{releases_at, newest_release, Latest, total_by, total_at, total_places, each_release}
 use Rattle.runs.proofs.Tables.{TableSound}
-use Rattle.runs.proofs.Agree.{view_at, seen_by, most, BatchAgrees, BookAgrees, ledger_of, Agrees}
+use Rattle.runs.proofs.Agree.{view_at, seen_by, most, BatchAgrees, BookAgrees, Agrees}
 
 -- one for each job, and one for each that is pending
 abbrev each : Booked → ℕ
@@ -173,4 +172,9 @@ book_kept model table hs (Some book) (Some batch) sound B = (batch_kept model ta
 pub kept : (L : Ledger) (m : Machine) (hs : List Bool) → Agrees L m hs → Kept L
 kept L m hs A =
     let b = book_kept m.model m.table hs A.book m.batch A.sound A.agrees in
-    subst (λ (K : Ledger). Kept K) (sym A.is) (record { meets = A.sound.admitted; batch = b.0; tokens = b.1 })
+    subst (λ (K : Ledger). Kept K) (sym A.is) (record { meets = A.sound.admitted; batch = b.0 })
+
+pub tokens_kept : (L : Ledger) (m : Machine) (hs : List Bool) → Agrees L m hs → TokensKept L
+tokens_kept L m hs A =
+    let b = book_kept m.model m.table hs A.book m.batch A.sound A.agrees in
+    subst (λ (K : Ledger). TokensKept K) (sym A.is) b.1

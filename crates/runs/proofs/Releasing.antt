@@ -1,22 +1,20 @@
 -- A release that is granted: ledger and controller agree again.
-use Rattle.std.proofs.Common.{◌≡◌, ℕ, zero, suc, ◌+◌, ◌*◌, ◌<◌, ◌≤◌, min, Bool, true, false, cond, not, eqb, leb, ◌⊎◌, List, [], ◌∷◌, length, get_or, drop, set, Some, None, Option, unwrap_or, sym, refl, ap, ◌∙◌, subst, inl, inr, arith}
-use Rattle.std.specs.List.{slice_get}
+use Rattle.std.proofs.Common.{◌≡◌, ℕ, ◌+◌, ◌<◌, ◌≤◌, Bool, true, false, cond, not, eqb, List, ◌∷◌, length, get_or, Some, None, Option, unwrap_or, sym, refl, ap, ◌∙◌, subst, inl, inr, arith}
 use Rattle.std.proofs.lemmas.List.{length-set, get_or-set_same, get_or-set_other}
-use Rattle.std.proofs.lemmas.Bool.{cases_Bool, cases_eq, both_ways, eq-eqb, ne_eqb, leb-true, not-false}
-use Rattle.shelf.specs.Models.{Model, reading_at}
+use Rattle.std.proofs.lemmas.Bool.{cases_eq, eq-eqb, ne_eqb, leb-true, not-false}
+use Rattle.shelf.specs.Models.{Model}
 use Rattle.admission.specs.declared.plan.Step.{Step}
 use Rattle.admission.specs.Tables.{Table, plan_at}
-use Rattle.schedule.specs.Batches.{order_of, newest, MayRelease, task_at}
+use Rattle.schedule.specs.Batches.{MayRelease, task_at}
 use Rattle.schedule.specs.Jobs as theory
 use Rattle.schedule.specs.Jobs.{MachineRun, MachineReleased, released, resting, begun, is_at_rest}
 use Rattle.controller.specs.declared.job.Job.{Job}
-use Rattle.controller.specs.Turns.{pending_in, start_of}
+use Rattle.controller.specs.Turns.{pending_in}
 use Rattle.controller.specs.Choices.{no_job, pending_at}
 use Rattle.controller.specs.Machines.{Batch, spaced, started_job, with_release}
-use Rattle.runs.specs.Ledger.{Booked, Book, is_done, left_of, release_of, finished_in, unfinished}
-use Rattle.runs.specs.Laws.{EachJob}
-use Rattle.runs.proofs.Views.{view_of, left_in', left_begun, done_rest, rest_is, started, started_shown}
-use Rattle.runs.proofs.Books.{releases_at, newest_release, no_release, Latest, last_of, unfinished_new}
+use Rattle.runs.specs.Ledger.{Booked, Book, left_of, release_of}
+use Rattle.runs.proofs.Views.{view_of, left_in', left_begun, rest_is, started, started_shown}
+use Rattle.runs.proofs.Books.{releases_at, newest_release, no_release, last_of, unfinished_new}
 use Rattle.runs.proofs.Tables.{TableSound}
 use Rattle.runs.proofs.Agree.{view_at, seen_by, most, BatchAgrees}
 use Rattle.runs.proofs.Keeping.{done_is, few_releases}

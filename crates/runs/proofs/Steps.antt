@@ -1,9 +1,9 @@
 -- One call: its answer fits the ledger, and ledger and controller agree again.
-use Rattle.std.proofs.Common.{◌≡◌, ℕ, ◌+◌, ◌<◌, ◌≤◌, Bool, true, false, cond, not, eqb, ltb, leb, List, [], ◌∷◌, ◌++◌, length, get_or, drop, set, replicate, Some, None, Ok, Err, Option, Result, sym, refl, ap, ◌∙◌, subst, inl, inr, arith}
+use Rattle.std.proofs.Common.{◌≡◌, ℕ, ◌+◌, ◌<◌, Bool, true, false, cond, not, ltb, List, [], ◌∷◌, ◌++◌, length, get_or, Some, None, Ok, Err, Option, Result, sym, refl, ap, ◌∙◌, subst, inl, inr, arith}
 use Rattle.std.specs.List.{slice_get}
 use Rattle.std.proofs.lemmas.List.{get_or-replicate}
-use Rattle.std.proofs.lemmas.Bool.{cases_Bool, both_ways, ltb-true, ltb-false, not-true}
-use Rattle.shelf.specs.Models.{Rules, Model, reading_at}
+use Rattle.std.proofs.lemmas.Bool.{cases_Bool, ltb-true, ltb-false, not-true}
+use Rattle.shelf.specs.Models.{Rules, Model}
 use Rattle.admission.specs.declared.task.Segment.{Segment}
 use Rattle.admission.specs.declared.task.Task.{Task}
 use Rattle.admission.specs.declared.plan.Rule.{Rule}
@@ -14,24 +14,21 @@ use Rattle.admission.specs.Tables.{Table, plan_at, no_adopted_task}
 use Rattle.admission.specs.Verdicts.{asked, first_no, unless, rule_of_number, table_of, verdict}
 use Rattle.admission.specs.Verdicts as verdicts
 use Rattle.admission.proofs.Exact.{first_no_left, first_no_right, asked_yes}
-use Rattle.schedule.specs.Batches.{task_at}
 use Rattle.schedule.specs.Jobs.{opened, is_at_rest}
 use Rattle.controller.specs.declared.job.Job.{Job}
-use Rattle.controller.specs.declared.job.Ticked.{Ticked}
 use Rattle.controller.specs.declared.job.Sums.{Sums}
 use Rattle.controller.specs.Turns.{Turn, pending_in, turn}
 use Rattle.controller.specs.Choices.{no_job, pending_at, urgency_of, chosen}
 use Rattle.controller.specs.Machines.{Batch, Machine, new_machine, fresh_batch, spaced, release_no, released_in, with_release, Tick, tick_of, choice_tick, step_tick, idle_tick, turn_tick, ticking_in, ticked_in}
 use Rattle.controller.specs.Machines as machines
 use Rattle.controller.proofs.Choosing.{Best}
-use Rattle.runs.specs.declared.calls.Answer.{Answer}
 use Rattle.runs.specs.declared.calls.Answer.TheVariants.{Closed, Worked, NoToken, Refused}
 use Rattle.runs.specs.Entries.{Entry, adopts, opens, releases, ticks, closes, reads, demands, answered, stepped, held_after, lists_after, without, good_in, adopt_answer_of, release_answer_of, tick_answer, close_answer_of}
 use Rattle.runs.specs.Ledger.{Book, Ledger, start, fresh_book, feed, feed_tick, is_done, left_of, release_of, with_table, contents_after, after_event, working, idling}
-use Rattle.runs.specs.Laws.{Fits, written_by, release_fits, close_fits, AnswerFits, TickFits}
+use Rattle.runs.specs.Laws.{Fits, written_by, close_fits, AnswerFits, TickFits}
 use Rattle.runs.proofs.Views.{view_of, left_in', Turned, ObjectsExist, objects_drop}
 use Rattle.runs.proofs.Turning.{turned}
-use Rattle.runs.proofs.Tables.{TableSound, empty_sound, Taken, verdict_taken}
+use Rattle.runs.proofs.Tables.{TableSound, empty_sound, verdict_taken}
 use Rattle.runs.proofs.Agree.{view_at, BatchAgrees, BookAgrees, ledger_of, Agrees}
 use Rattle.runs.proofs.Keeping.{sums_are, done_is}
 use Rattle.runs.proofs.Releasing.{with_job, release_agrees}

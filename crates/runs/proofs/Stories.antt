@@ -5,9 +5,9 @@ use Rattle.controller.specs.Machines.{Machine, new_machine}
 use Rattle.runs.specs.declared.calls.Answer.{Answer}
 use Rattle.runs.specs.Entries.{Entry, answered, stepped, held_after, lists_after, answered_all, stepped_all, held_all, lists_all}
 use Rattle.runs.specs.Ledger.{Ledger, start, feed}
-use Rattle.runs.specs.Laws.{Law, after, written_by, written_all, RunLaw}
+use Rattle.runs.specs.Laws.{Law, after, written_by, written_all, TokensKept, RunLaw}
 use Rattle.runs.proofs.Agree.{Agrees}
-use Rattle.runs.proofs.Keeping.{kept}
+use Rattle.runs.proofs.Keeping.{kept, tokens_kept}
 use Rattle.runs.proofs.Steps.{start_agrees, step}
 
 -- wherever ledger and controller agree, every list of calls keeps the law
@@ -24,6 +24,10 @@ pub agrees_after : (L : Ledger) (m : Machine) (hs : List Bool) (es : List Entry)
 agrees_after L m hs [] A = A
 agrees_after L m hs (e ∷ es) A =
     agrees_after (feed L e (answered m hs e)) (stepped m hs e) (held_after m hs e) es (step L m hs e A).next
+
+-- and holds one good token while a batch is open, none else
+tokens_after : (L : Ledger) (m : Machine) (hs : List Bool) (es : List Entry) → Agrees L m hs → TokensKept (after L es (answered_all m hs es))
+tokens_after L m hs es A = tokens_kept (after L es (answered_all m hs es)) (stepped_all m hs es) (held_all m hs es) (agrees_after L m hs es A)
 
 lists_are : (L : Ledger) (m : Machine) (hs : List Bool) (es : List Entry) → Agrees L m hs → lists_all m hs es ≡ written_all L es (answered_all m hs es)
 lists_are L m hs [] A = refl
@@ -90,9 +94,12 @@ run_law model es =
           ∙ ap (λ (rs : List Answer). (after (start model) (take k es) rs).model) (answers_take m [] es k);
       lists = lists_are (start model) m [] es A;
       tokens = sym B.held_is;
+      tokens_throughout = λ k.
+          subst (λ (rs : List Answer). TokensKept (after (start model) (take k es) rs)) (answers_take m [] es k) (tokens_after (start model) m [] (take k es) A);
       answered_by = refl;
       left_by = refl;
       onward = λ more. lawful (after (start model) es (answered_all m [] es)) (stepped_all m [] es) (held_all m [] es) more B;
+      tokens_onward = λ more. tokens_after (after (start model) es (answered_all m [] es)) (stepped_all m [] es) (held_all m [] es) more B;
     }
 
 pub story_law : (model : Model) (es ds : List Entry) (rs : List Answer) (m : Machine) (hs : List Bool) → Story (new_machine model) es ds rs m hs → RunLaw model es ds rs m hs

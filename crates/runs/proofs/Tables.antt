@@ -1,7 +1,7 @@
 -- A table that is taken is sound: it meets its inequality, its plans fit it, and their objects exist.
-use Rattle.std.proofs.Common.{◌≡◌, ℕ, zero, suc, ◌+◌, ◌<◌, ◌≤◌, max, Bool, true, false, cond, ◌&&◌, ◌||◌, eqb, leb, List, [], ◌∷◌, map, length, get_or, Some, None, Ok, Err, Option, Result, sym, refl, ap, ◌∙◌, subst, inl, inr, arith}
+use Rattle.std.proofs.Common.{◌≡◌, ℕ, zero, suc, ◌+◌, ◌<◌, ◌≤◌, true, false, ◌&&◌, eqb, leb, List, [], ◌∷◌, map, length, get_or, Some, None, Ok, Err, Option, sym, refl, ap, ◌∙◌, subst, inl, inr, arith}
 use Rattle.std.proofs.lemmas.List.{get_or-map}
-use Rattle.std.proofs.lemmas.Bool.{cases_Bool, both_ways, and_parts, leb-true}
+use Rattle.std.proofs.lemmas.Bool.{cases_Bool, and_parts, leb-true}
 use Rattle.shelf.specs.Models.{Rules}
 use Rattle.admission.specs.declared.task.Segment.{Segment}
 use Rattle.admission.specs.declared.task.Task.{Task}
@@ -11,11 +11,11 @@ use Rattle.admission.specs.declared.plan.AdoptedTask.{AdoptedTask}
 use Rattle.admission.specs.declared.plan.Step.{Step}
 use Rattle.admission.specs.declared.refusal.Refusal.{Refusal}
 use Rattle.admission.specs.declared.refusal.Refusal.TheVariants.{TaskCount, UnknownRule, PeriodOrDeadline, SegmentRange, KindOrSize, AccessObject}
-use Rattle.admission.specs.Lengths.{attempt_ticks_of, ticks_of, attempt_of, cost, longest, owned, longest_attempt_of}
-use Rattle.admission.specs.Tables.{Table, empty_table, goes_by_rank, no_task, no_segment, no_adopted_task, step_of, plan_at, plans_of_tasks, adopted_tasks_of}
-use Rattle.admission.specs.Limits.{SegmentLimits, TaskLimits, TableLimits, AdoptedLimits}
+use Rattle.admission.specs.Lengths.{attempt_ticks_of, attempt_of, cost, longest, owned, longest_attempt_of}
+use Rattle.admission.specs.Tables.{Table, empty_table, goes_by_rank, no_task, no_segment, step_of, plan_at, plans_of_tasks, adopted_tasks_of}
+use Rattle.admission.specs.Limits.{SegmentLimits, TableLimits, AdoptedLimits}
 use Rattle.admission.specs.Tests.{Ranked}
-use Rattle.admission.specs.Verdicts.{asked, first_no, unless, rule_of_number, has_fit_times, has_fit_range, has_fit_size, has_object, segments_no, task_no, tasks_no, test_no, witnesses_of, table_of, table_no, verdict_under, verdict}
+use Rattle.admission.specs.Verdicts.{asked, rule_of_number, has_fit_times, has_fit_range, has_fit_size, has_object, segments_no, task_no, tasks_no, test_no, witnesses_of, table_of, table_no, verdict_under, verdict}
 use Rattle.admission.proofs.Questions.{unless_ok}
 use Rattle.admission.proofs.Exact.{unless_value, first_no_left, first_no_right, asked_yes}
 use Rattle.admission.proofs.Parts.{owned_length}

@@ -1,5 +1,5 @@
 -- A tick: ledger and controller agree again, and what the tick tells fits the ledger.
-use Rattle.std.proofs.Common.{◌≡◌, ℕ, zero, suc, ◌+◌, ◌<◌, ◌≤◌, Bool, true, false, cond, not, eqb, leb, ◌⊎◌, List, [], ◌∷◌, length, get_or, drop, set, Some, None, Option, unwrap_or, sym, refl, ap, ◌∙◌, subst, inl, inr, arith}
+use Rattle.std.proofs.Common.{◌≡◌, ℕ, zero, suc, ◌+◌, ◌<◌, ◌≤◌, Bool, true, false, cond, not, eqb, List, [], ◌∷◌, length, get_or, drop, Some, None, Option, unwrap_or, sym, refl, ap, ◌∙◌, subst, inl, inr, arith}
 use Rattle.std.specs.List.{slice_get}
 use Rattle.std.proofs.lemmas.List.{length-set, get_or-set_same, get_or-set_other, drop-drop}
 use Rattle.std.proofs.lemmas.Bool.{cases_Bool, cases_eq, both_ways, eq-eqb, ne_eqb, not-false}
@@ -8,7 +8,7 @@ use Rattle.admission.specs.declared.plan.Rule.{Rule}
 use Rattle.admission.specs.declared.plan.Rule.TheVariants.{RateMonotonic, DeadlineMonotonic, EarliestDeadlineFirst}
 use Rattle.admission.specs.declared.plan.Step.{Step}
 use Rattle.admission.specs.Tables.{Table, goes_by_rank, plan_at}
-use Rattle.schedule.specs.Batches.{order_of, newest, released_at, task_at, MostUrgent, preemption}
+use Rattle.schedule.specs.Batches.{order_of, released_at, MostUrgent, preemption}
 use Rattle.schedule.specs.Jobs as theory
 use Rattle.schedule.specs.Jobs.{MachineRun, MachineTicked, MachineIdled, ticked, idled, resting, is_at_rest, needs, batch_of, after_tick, in_attempt, bit}
 use Rattle.schedule.proofs.Records.{needs_some, needs_none}
@@ -17,20 +17,19 @@ use Rattle.controller.specs.declared.job.JobState.{JobState}
 use Rattle.controller.specs.declared.job.JobState.TheVariants.{Resting, Computing, Attempting}
 use Rattle.controller.specs.declared.job.Event.{Event}
 use Rattle.controller.specs.declared.job.Event.TheVariants.{Computed, Attempted, Committed, Retried, Idle}
-use Rattle.controller.specs.Turns.{Turn, pending_in, turn}
+use Rattle.controller.specs.Turns.{Turn, pending_in}
 use Rattle.controller.specs.Choices.{no_job, pending_at, urgency_of, chosen}
 use Rattle.controller.specs.Choices as choices
 use Rattle.controller.specs.Machines.{Batch, one, is_retry_event, with_idle, with_turn}
 use Rattle.controller.proofs.Choosing.{Best}
 use Rattle.admission.specs.Tables.{no_adopted_task}
-use Rattle.runs.specs.Ledger.{Booked, Book, is_done, left_of, release_of, with_left, finished_in, left_after, retries_by, worker_at, working, idling}
+use Rattle.runs.specs.Ledger.{Booked, Book, is_done, left_of, release_of, left_after, retries_by, worker_at, working, idling}
 use Rattle.runs.specs.Laws.{EachJob, EventFits, WorkFits, IdleFits, TickFits}
-use Rattle.runs.proofs.Views.{in_state, view_of, left_in', done_rest, rest_is, ObjectsExist, objects_drop, Turned}
-use Rattle.runs.proofs.Turning.{turned}
-use Rattle.runs.proofs.Books.{releases_at, newest_release, left_released, left_here, left_other, releases_kept, release_kept, length_kept, finished_more, unfinished_here, Latest, latest_kept, each_kept, each_more, each_release, last_of, preempts_is}
-use Rattle.runs.proofs.Urgent.{chosen_best, by_rank, by_deadline}
+use Rattle.runs.proofs.Views.{in_state, view_of, left_in', done_rest, rest_is, Turned}
+use Rattle.runs.proofs.Books.{newest_release, left_released, left_here, left_other, releases_kept, release_kept, length_kept, finished_more, unfinished_here, Latest, latest_kept, each_kept, each_more, each_release, last_of, preempts_is}
+use Rattle.runs.proofs.Urgent.{by_rank, by_deadline}
 use Rattle.runs.proofs.Tables.{TableSound}
-use Rattle.runs.proofs.Agree.{view_at, seen_by, most, BatchAgrees}
+use Rattle.runs.proofs.Agree.{view_at, seen_by, BatchAgrees}
 use Rattle.runs.proofs.Keeping.{runs, done_is}
 
 -- where the latest job of every place has finished, all jobs have

@@ -1,5 +1,5 @@
 -- One tick of a pending job: the controller's record, the theory's and the ledger's move alike.
-use Rattle.std.proofs.Common.{◌≡◌, ℕ, ◌+◌, ◌-◌, Bool, true, false, cond, not, ◌&&◌, eqb, ltb, List, [], ◌∷◌, drop, Option, sym, refl, ap, ◌∙◌, subst, inl, inr}
+use Rattle.std.proofs.Common.{◌≡◌, ℕ, ◌+◌, ◌-◌, Bool, true, false, cond, not, ◌&&◌, eqb, ltb, List, ◌∷◌, drop, sym, refl, ap, ◌∙◌, subst, inl, inr}
 use Rattle.std.specs.List.{slice_get}
 use Rattle.std.proofs.lemmas.Bool.{cases_Bool, both_ways, eqb-true, cond-true, cond-false}
 use Rattle.shelf.specs.Models.{Model, reading_at, accepts, committed, changed}
@@ -9,16 +9,14 @@ use Rattle.admission.specs.declared.plan.Step.TheVariants.{Compute, Access}
 use Rattle.schedule.specs.Jobs as theory
 use Rattle.schedule.specs.Jobs.{resting, computing, attempting, begun, is_at_rest, in_attempt, refused, after_tick, bit}
 use Rattle.controller.specs.declared.job.Job.{Job}
-use Rattle.controller.specs.declared.job.JobState.{JobState}
-use Rattle.controller.specs.declared.job.JobState.TheVariants.{Resting, Computing, Attempting}
-use Rattle.controller.specs.declared.job.Event.{Event}
-use Rattle.controller.specs.declared.job.Event.TheVariants.{Computed, Attempted, Committed, Retried, Idle}
+use Rattle.controller.specs.declared.job.JobState.TheVariants.{Computing, Attempting}
+use Rattle.controller.specs.declared.job.Event.TheVariants.{Computed, Attempted, Committed, Retried}
 use Rattle.controller.specs.declared.advance.Outcome.{Outcome}
 use Rattle.controller.specs.declared.advance.Outcome.TheVariants.{UnderWay, Accepted, Refused}
 use Rattle.controller.specs.Turns.{Turn, word_of, pending_in, left_in, seen_in, start_of, on_to, goes_by, outcome_in, outcome_of, moved, turn}
 use Rattle.controller.specs.Turns as turns
 use Rattle.controller.specs.Machines.{one, is_retry_event}
-use Rattle.runs.specs.Ledger.{Book, is_done, left_after, contents_after, applied, working, after_event}
+use Rattle.runs.specs.Ledger.{Book, left_after, contents_after, working, after_event}
 use Rattle.runs.specs.Laws.{EventFits}
 use Rattle.runs.proofs.Views.{in_step, in_state, view_of, left_in', left_begun, started, started_shown, begun_outside, pending_view, pending_outcome, accepts_is, ObjectsExist, Turned}
 

@@ -1,31 +1,22 @@
 -- The job that is chosen is the most urgent in the order of its rule.
-use Rattle.std.proofs.Common.{◌≡◌, ℕ, zero, suc, ◌+◌, ◌<◌, ◌≤◌, Bool, true, false, cond, not, ◌⊎◌, List, length, get_or, Some, None, Option, sym, refl, ap, ◌∙◌, subst, inl, inr, add-one, arith}
-use Rattle.std.proofs.lemmas.Bool.{cases_Bool, cases_order, both_ways, cond-true, cond-false}
+use Rattle.std.proofs.Common.{◌≡◌, ℕ, zero, suc, ◌+◌, ◌<◌, Bool, true, false, List, length, get_or, Some, None, Option, sym, subst, inl, inr, add-one, arith}
+use Rattle.std.proofs.lemmas.Bool.{cases_Bool, cases_order}
 use Rattle.admission.specs.declared.plan.Rule.{Rule}
-use Rattle.admission.specs.declared.plan.Rule.TheVariants.{RateMonotonic, DeadlineMonotonic, EarliestDeadlineFirst}
 use Rattle.admission.specs.declared.plan.AdoptedTask.{AdoptedTask}
 use Rattle.admission.specs.Tables.{goes_by_rank, no_adopted_task}
 use Rattle.admission.specs.Tests.{Ranked}
-use Rattle.schedule.specs.Batches.{Batch, Order, ByRank, ByDeadline, order_of, released_at, task_at, MostUrgent}
+use Rattle.schedule.specs.Batches.{ByDeadline, task_at}
 use Rattle.controller.specs.declared.job.Job.{Job}
-use Rattle.controller.specs.Choices.{no_job, pending_at, release_of, urgency_of, is_more_urgent, chosen}
-use Rattle.controller.proofs.Choosing.{Best, best_first, best_skip, replaced, stays, best_chosen, Lower, Upper, lower_yes, lower_no}
+use Rattle.controller.specs.Choices.{no_job, pending_at, release_of, urgency_of, is_more_urgent, better_of, chosen}
+use Rattle.controller.proofs.Choosing.{Best, best_skip, best_more, best_chosen, Lower, Upper, lower_yes, lower_no}
 
 -- there is a best of the places below any number
-best_with : (pending : ℕ → Bool) (urgency : ℕ → ℕ × ℕ) (n : ℕ) (o : Option ℕ) → Best pending urgency n o → pending n ≡ true → (o : Option ℕ) × Best pending urgency (n + 1) o
-best_with pending urgency n None h p = (Some n, best_first pending urgency n h p)
-best_with pending urgency n (Some b) h p =
-    elim (cases_Bool (is_more_urgent (urgency n) (urgency b))) [
-      | inl e ↦ (Some n, replaced pending urgency n b h p e)
-      | inr e ↦ (Some b, stays pending urgency n b h e)
-    ]
-
 best_of : (pending : ℕ → Bool) (urgency : ℕ → ℕ × ℕ) (n : ℕ) → (o : Option ℕ) × Best pending urgency n o
 best_of pending urgency zero = (None, λ k l. absurd (omega arith))
 best_of pending urgency (suc n) =
     let b = best_of pending urgency n in
     elim (cases_Bool (pending n)) [
-      | inl e ↦ let m = best_with pending urgency n b.0 b.1 e in (m.0, rw (sym (add-one n)) m.1)
+      | inl e ↦ (better_of (λ a c. is_more_urgent (urgency a) (urgency c)) b.0 n, rw (sym (add-one n)) (best_more pending urgency n b.0 b.1 e))
       | inr e ↦ (b.0, rw (sym (add-one n)) (best_skip pending urgency n b.0 b.1 e))
     ]
 

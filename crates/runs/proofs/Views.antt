@@ -1,8 +1,8 @@
 -- A controller's record of a place, as the theory of runs has it, and one tick of it.
-use Rattle.std.proofs.Common.{◌≡◌, ℕ, zero, suc, ◌+◌, ◌-◌, ◌<◌, ◌≤◌, Bool, true, false, cond, not, ◌&&◌, ◌||◌, eqb, ltb, List, [], ◌∷◌, length, get_or, drop, Some, None, Option, sym, refl, ap, ◌∙◌, subst, inl, inr, arith}
+use Rattle.std.proofs.Common.{◌≡◌, ℕ, zero, suc, Bool, true, false, not, eqb, List, [], ◌∷◌, drop, sym, refl, ◌∙◌, inl, inr, arith}
 use Rattle.std.specs.List.{slice_get}
-use Rattle.std.proofs.lemmas.Bool.{cases_Bool, cases_eq, both_ways, le-ltb, eqb-true, eqb-false, eq-eqb, ne_eqb}
-use Rattle.shelf.specs.Models.{Model, reading_at, accepts, committed, changed}
+use Rattle.std.proofs.lemmas.Bool.{cases_eq, both_ways, le-ltb, eq-eqb, ne_eqb}
+use Rattle.shelf.specs.Models.{Model, reading_at, accepts}
 use Rattle.admission.specs.declared.plan.Word.{Word}
 use Rattle.admission.specs.declared.plan.Step.{Step}
 use Rattle.admission.specs.declared.plan.Step.TheVariants.{Compute, Access}
@@ -11,11 +11,7 @@ use Rattle.schedule.specs.Jobs.{resting, computing, attempting, begun, is_at_res
 use Rattle.controller.specs.declared.job.Job.{Job}
 use Rattle.controller.specs.declared.job.JobState.{JobState}
 use Rattle.controller.specs.declared.job.JobState.TheVariants.{Resting, Computing, Attempting}
-use Rattle.controller.specs.declared.job.Event.{Event}
-use Rattle.controller.specs.declared.job.Event.TheVariants.{Computed, Attempted, Committed, Retried, Idle}
-use Rattle.controller.specs.declared.advance.Outcome.{Outcome}
-use Rattle.controller.specs.declared.advance.Outcome.TheVariants.{UnderWay, Accepted, Refused}
-use Rattle.controller.specs.Turns.{Turn, word_of, pending_in, left_in, seen_in, start_of, on_to, goes_by, outcome_in, outcome_of, moved, turn}
+use Rattle.controller.specs.Turns.{Turn, pending_in, left_in, seen_in, start_of, outcome_in, outcome_of}
 use Rattle.controller.specs.Machines.{one, is_retry_event}
 use Rattle.runs.specs.Ledger.{Book, is_done, left_after, contents_after, working, after_event}
 use Rattle.runs.specs.Laws.{EventFits}

@@ -1,22 +1,20 @@
 -- The law that a run keeps at every point of its list of calls.
-use Rattle.std.specs.Prelude.{◌≡◌, ℕ, ◌+◌, ◌<◌, ◌≤◌, Bool, true, false, cond, not, List, [], ◌∷◌, length, get_or, take, Some, None, Err, Option, nat_lt, slice_index_or}
+use Rattle.std.specs.Prelude.{◌≡◌, ℕ, ◌+◌, ◌<◌, ◌≤◌, Bool, true, false, cond, List, [], ◌∷◌, length, get_or, take, Some, None, Err, Option, nat_lt, slice_index_or}
 use Rattle.shelf.specs.Models.{Model, reading_at}
 use Rattle.admission.specs.declared.plan.Step.{Step}
 use Rattle.admission.specs.declared.plan.Step.TheVariants.{Compute, Access}
-use Rattle.admission.specs.declared.refusal.Refusal.{Refusal}
 use Rattle.admission.specs.declared.refusal.Refusal.TheVariants.{BatchOpen, AlreadyOpen, NoBatch, NoPlace, TooSoon, Unfinished, ClockEnd, VoidToken, NoObject}
 use Rattle.admission.specs.Tables.{Table, no_adopted_task}
 use Rattle.admission.specs.Verdicts.{asked, first_no, unless, verdict, answered, list_after, demanded}
 use Rattle.schedule.specs.Theorems.{Admitted}
 use Rattle.controller.specs.declared.job.Event.{Event}
 use Rattle.controller.specs.declared.job.Event.TheVariants.{Computed, Attempted, Committed, Retried, Idle}
-use Rattle.controller.specs.declared.job.Ticked.{Ticked}
 use Rattle.controller.specs.declared.job.Sums.{Sums}
 use Rattle.controller.specs.Machines.{Machine, new_machine, spaced}
 use Rattle.controller.specs.Turns.{word_of}
 use Rattle.runs.specs.declared.calls.Answer.{Answer}
 use Rattle.runs.specs.declared.calls.Answer.TheVariants.{Taken, Opened, Released, Worked, Closed, Reading, Demanded, NoToken, Refused}
-use Rattle.runs.specs.Entries.{Entry, adopts, opens, releases, ticks, closes, reads, demands, adopt_answer_of, open_answer_of, release_answer_of, close_answer_of, read_answer_of, demand_answer_of, good_in, answered_all, stepped_all}
+use Rattle.runs.specs.Entries.{Entry, adopts, opens, releases, ticks, closes, reads, demands, adopt_answer_of, release_answer_of, read_answer_of, demand_answer_of, good_in, answered_all, stepped_all}
 use Rattle.runs.specs.Ledger.{Booked, Book, Ledger, is_done, left_of, release_of, finished_in, pending_in, left_after, feed, start}
 
 -- whether a batch is open
@@ -142,8 +140,6 @@ pub record Kept (L : Ledger) : Type 0 where
   -- the table meets its inequality
   pub meets : Admitted L.table.rule L.table.attempt L.table.tasks
   pub batch : BookKept L.table L.book
-  -- one good token is held while a batch is open, and none else
-  pub tokens : good_in L.held ≡ cond (is_open L.book) 1 0
 
 abbrev pub Law : Ledger → List Entry → List Answer → Type 0
 Law L [] [] = Kept L
@@ -173,6 +169,10 @@ written_all L [] rs = []
 written_all L (e ∷ es) [] = e ∷ es
 written_all L (e ∷ es) (a ∷ rs) = written_by L e ∷ written_all (feed L e a) es rs
 
+-- one good token is held while a batch is open, and none else
+abbrev pub TokensKept : Ledger → Type 0
+TokensKept L = good_in L.held ≡ cond (is_open L.book) 1 0
+
 -- The whole promise on a list of calls, made on a factory-new controller over a shelf with that model: they answered so,
 -- made these of their lists, and left that controller and such tokens.
 pub record RunLaw (model : Model) (calls written : List Entry) (answers : List Answer) (left : Machine) (held : List Bool) : Type 0 where
@@ -183,8 +183,10 @@ pub record RunLaw (model : Model) (calls written : List Entry) (answers : List A
   pub throughout : (k : ℕ) → (stepped_all (new_machine model) [] (take k calls)).model ≡ (after (start model) (take k calls) (take k answers)).model
   pub lists : written ≡ written_all (start model) calls answers
   pub tokens : held ≡ (after (start model) calls answers).held
+  pub tokens_throughout : (k : ℕ) → TokensKept (after (start model) (take k calls) (take k answers))
   -- nothing was done but these calls: answers and controller are those of the calls, one after another
   pub answered_by : answers ≡ answered_all (new_machine model) [] calls
   pub left_by : left ≡ stepped_all (new_machine model) [] calls
   -- whatever calls come next, they keep the law as well
   pub onward : (more : List Entry) → Law (after (start model) calls answers) more (answered_all left held more)
+  pub tokens_onward : (more : List Entry) → TokensKept (after (after (start model) calls answers) more (answered_all left held more))

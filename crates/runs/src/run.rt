@@ -1,7 +1,8 @@
-ghost use Rattle.std.specs.Prelude.{◌≡◌, ℕ, ◌≤◌, map, length, is_ok, vec_len, vec_capacity, MatchResult, nat_le, nat_lt};
+ghost use Rattle.std.specs.Prelude.{◌≡◌, ℕ, ◌≤◌, map, length, is_ok, vec_len, vec_capacity, IfOk, MatchResult, nat_le, nat_lt};
 ghost use Rattle.controller.specs.Machines.{machine, closed};
 ghost use Rattle.runs.specs.Entries.{entry_of, goods, good_in};
-ghost use Rattle.runs.specs.Laws.{RunLaw};
+ghost use Rattle.runs.specs.Ledger.{start};
+ghost use Rattle.runs.specs.Laws.{Law, after, written_all, RunLaw};
 
 use crate::calls::{Answer, Call};
 use crate::perform::perform;
@@ -33,7 +34,11 @@ pub(crate) fn run_reserved<S: Shelf>(
 ) -> Ran<S>
     requires empty { (vec_len answers ≡ 0) × (vec_len tokens ≡ 0) }
     requires room { (length calls.old ≤ vec_capacity answers) × (length calls.old ≤ vec_capacity tokens) }
-    ensures { RunLaw (S.Shelf.model shelf) (map entry_of calls.old) (map entry_of calls.new) result.answers.items (machine (S.Shelf.model result.controller.shelf) result.controller.core) (goods result.tokens.items) }
+    ensures law { Law (start (S.Shelf.model shelf)) (map entry_of calls.old) result.answers.items }
+    ensures lists { map entry_of calls.new ≡ written_all (start (S.Shelf.model shelf)) (map entry_of calls.old) result.answers.items }
+    ensures contents { S.Shelf.model result.controller.shelf ≡ (after (start (S.Shelf.model shelf)) (map entry_of calls.old) (result.answers.items)).model }
+    ensures held { goods result.tokens.items ≡ (after (start (S.Shelf.model shelf)) (map entry_of calls.old) (result.answers.items)).held }
+    ensures whole { RunLaw (S.Shelf.model shelf) (map entry_of calls.old) (map entry_of calls.new) result.answers.items (machine (S.Shelf.model result.controller.shelf) result.controller.core) (goods result.tokens.items) }
 {
     let mut controller = Controller::new(shelf);
     for call in calls.iter_mut() {
@@ -50,7 +55,11 @@ pub(crate) fn run_reserved<S: Shelf>(
 // All calls, in order, on a factory-new controller, or none if they are more than the room is for.
 pub fn run<S: Shelf>(shelf: S, calls: &mut [Call], room: Room) -> Result<Ran<S>, TooLong<S>>
     ensures all { is_ok result ≡ nat_le (length calls.old) room.calls }
-    ensures law { MatchResult result (λ ran. RunLaw (S.Shelf.model shelf) (map entry_of calls.old) (map entry_of calls.new) ran.answers.items (machine (S.Shelf.model ran.controller.shelf) ran.controller.core) (goods ran.tokens.items)) (λ no. (no ≡ record { shelf = shelf; room = room }) × (calls.new ≡ calls.old)) }
+    ensures law { MatchResult result (λ ran. Law (start (S.Shelf.model shelf)) (map entry_of calls.old) ran.answers.items) (λ no. no ≡ record { shelf = shelf; room = room }) }
+    ensures lists { MatchResult result (λ ran. map entry_of calls.new ≡ written_all (start (S.Shelf.model shelf)) (map entry_of calls.old) ran.answers.items) (λ no. calls.new ≡ calls.old) }
+    ensures contents { IfOk result (λ ran. S.Shelf.model ran.controller.shelf ≡ (after (start (S.Shelf.model shelf)) (map entry_of calls.old) (ran.answers.items)).model) }
+    ensures held { IfOk result (λ ran. goods ran.tokens.items ≡ (after (start (S.Shelf.model shelf)) (map entry_of calls.old) (ran.answers.items)).held) }
+    ensures whole { IfOk result (λ ran. RunLaw (S.Shelf.model shelf) (map entry_of calls.old) (map entry_of calls.new) ran.answers.items (machine (S.Shelf.model ran.controller.shelf) ran.controller.core) (goods ran.tokens.items)) }
 {
     if calls.len() > room.calls {
         return Err(TooLong { shelf, room });
@@ -74,6 +83,7 @@ impl<S: Shelf> Ran<S> {
     // Hands in every token that is left, newest first, and ends the run.
     pub fn finish(self) -> (Controller<S>, Vec<Answer>)
         ensures answers { result.1 ≡ self.answers }
+        ensures contents { S.Shelf.model result.0.shelf ≡ S.Shelf.model self.controller.shelf }
         ensures machine { machine (S.Shelf.model result.0.shelf) result.0.core ≡ closed (machine (S.Shelf.model self.controller.shelf) self.controller.core) (nat_lt 0 (good_in (goods self.tokens.items))) }
     {
         let Ran {

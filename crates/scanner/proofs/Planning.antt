@@ -1,5 +1,5 @@
 -- Calls and charts that are added to a plan.
-use Rattle.std.proofs.Common.{◌≡◌, ℕ, ◌+◌, List, [], ◌∷◌, ◌++◌, map, length, replicate, sym, refl, ap, ◌∙◌}
+use Rattle.std.proofs.Common.{◌≡◌, ℕ, ◌+◌, List, [], ◌∷◌, ◌++◌, map, length, replicate, sym, ap, ◌∙◌}
 use Rattle.std.proofs.lemmas.List.{map_push, length-map, replicate_more, append_assoc, append-nil}
 use Rattle.runs.specs.declared.calls.Call.{Call}
 use Rattle.runs.specs.declared.calls.Call.TheVariants.{Tick}

@@ -1,5 +1,5 @@
 -- The text of an answer.
-use Rattle.std.specs.Prelude.{ℕ, Bool, true, false, cond, List, ◌++◌, codes, decimal}
+use Rattle.std.specs.Prelude.{ℕ, Bool, cond, List, ◌++◌, codes, decimal}
 use Rattle.admission.specs.Refusals.{numbered}
 use Rattle.controller.specs.Events.{event_number, event_object, event_word}
 use Rattle.controller.specs.declared.job.Sums.{Sums}

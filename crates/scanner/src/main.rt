@@ -1,3 +1,5 @@
+#![tactic(auto)]
+
 mod chart;
 mod plan;
 mod print;
@@ -16,6 +18,7 @@ use shelf::queue::Queue;
 use std::alloc::Global;
 use std::fmt;
 use std::io::{BufRead, BufReader, BufWriter, Write};
+use std::process::ExitCode;
 
 // What is wrong with a line, ready to be said once all that came before it is printed.
 fn fault<F: fmt::Display>(heap: Global, number: u64, fault: &F) -> anyhow::Result<Option<String>> {
@@ -76,13 +79,13 @@ fn follow<W: Write>(rt: &HostRuntime, out: &mut W) -> anyhow::Result<Option<Stri
     Ok(bad)
 }
 
-fn main(rt: HostRuntime) -> anyhow::Result<()> {
+fn main(rt: HostRuntime) -> anyhow::Result<ExitCode> {
     let mut out = BufWriter::new(rt.alloc(), rt.stdout())?;
     match follow(&rt, &mut out)? {
-        None => Ok(()),
+        None => Ok(ExitCode::SUCCESS),
         Some(bad) => {
             eprintln!(rt; "{bad}")?;
-            Err(anyhow!("a line of the script is bad"))
+            Ok(ExitCode::FAILURE)
         }
     }
 }

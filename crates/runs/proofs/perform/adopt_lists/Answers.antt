@@ -1,4 +1,4 @@
-use Rattle.std.proofs.Common.{◌≡◌, vec_items, vec_len, ap, ◌∙◌, arith, rules}
+use Rattle.std.proofs.Common.{vec_items, vec_len, ap, ◌∙◌, arith}
 use Rattle.controller.specs.Machines.{machine, adopting, adopted, stamped_list}
 use Rattle.runs.specs.Entries.{adopt_answer_of}
 use Rattle.runs.proofs.Handing.{same_lists, refill}

@@ -1,4 +1,4 @@
-use Rattle.std.proofs.Common.{◌≡◌, vec_items, vec_len, refl, ap, ◌∙◌, arith, rules}
+use Rattle.std.proofs.Common.{vec_items, vec_len, refl, ap, ◌∙◌, arith}
 use Rattle.controller.specs.Machines.{machine}
 use Rattle.runs.specs.Entries.{close_answer_of, goods}
 use Rattle.runs.proofs.Tokens.{token_in, token_out, token_good, token_gone, none_answer, none_after, none_held, close_answer_lem, close_after, close_held}

@@ -1,4 +1,4 @@
-use Rattle.std.proofs.Common.{◌≡◌, vec_items, ap, ◌∙◌, arith, rules}
+use Rattle.std.proofs.Common.{vec_items, ap, ◌∙◌, arith}
 use Rattle.controller.specs.Machines.{machine}
 use Rattle.runs.specs.Entries.{open_answer_of}
 use Rattle.runs.proofs.Tokens.{open_held}

@@ -1,4 +1,4 @@
-use Rattle.std.proofs.Common.{◌≡◌, ◌<◌, map, length, get_or, vec_items, sym, refl, ap, ◌∙◌, subst, arith, rules}
+use Rattle.std.proofs.Common.{◌≡◌, ◌<◌, map, length, get_or, vec_items, sym, refl, ap, ◌∙◌, subst, arith}
 use Rattle.std.proofs.lemmas.List.{nil_from_length}
 use Rattle.shelf.specs.Models.{Model}
 use Rattle.controller.specs.Machines.{machine, new_machine}
@@ -47,5 +47,8 @@ loop-call-preserved g c =
 pub returns : goal.returns
 returns g c =
     let s = g.S.Shelf.model c.new-controller.result.shelf in
+    let whole : RunLaw (g.S.Shelf.model c.args.shelf) (map entry_of c.args.calls.now) (map entry_of c.loop-call.calls) (vec_items c.loop-call.answers) (machine (g.S.Shelf.model c.loop-call.controller.shelf) c.loop-call.controller.core) (goods (vec_items c.loop-call.tokens)) =
     subst (λ (z : Model). RunLaw z (map entry_of c.args.calls.now) (map entry_of c.loop-call.calls) (vec_items c.loop-call.answers) (machine (g.S.Shelf.model c.loop-call.controller.shelf) c.loop-call.controller.core) (goods (vec_items c.loop-call.tokens))) (ap g.S.Shelf.model c.new-controller.ensures.shelf)
     (loop_end s c.args.calls.now c.loop-call.calls (vec_items c.loop-call.answers) (machine (g.S.Shelf.model c.loop-call.controller.shelf) c.loop-call.controller.core) (goods (vec_items c.loop-call.tokens)) c.loop-call.call-index c.loop-call-test.false (omega arith) c.loop-call.invariant.0)
+    in
+    record { law = whole.law; lists = whole.lists; contents = whole.contents; held = whole.tokens; whole = whole }

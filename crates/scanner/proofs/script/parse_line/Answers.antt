@@ -1,8 +1,8 @@
-use Rattle.std.proofs.Common.{◌≡◌, ◌-◌, ◌≤◌, length, take, Some, None, sym, subst, arith}
+use Rattle.std.proofs.Common.{◌≡◌, ◌-◌, take, Some, None, sym, subst, arith}
 use Rattle.std.proofs.lemmas.List.{length-take-le}
 use Rattle.std.proofs.lemmas.Result.{err_from_is_err_and}
 use Rattle.std.specs.Str.Iter.{split_whitespace_rest}
-use Rattle.scanner.specs.Lines.{arity_of, line_of}
+use Rattle.scanner.specs.Lines.{line_of}
 use Rattle.scanner.proofs.Reading.{first_in, said, too_few, broken}
 use Rattle.scanner.proofs.script.parse_line.Goals as goal
 

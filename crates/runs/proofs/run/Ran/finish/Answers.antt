@@ -1,4 +1,4 @@
-use Rattle.std.proofs.Common.{vec_items, ◌∙◌, rules}
+use Rattle.std.proofs.Common.{vec_items, ◌∙◌}
 use Rattle.controller.specs.Machines.{machine}
 use Rattle.runs.proofs.Tokens.{finish_more}
 use Rattle.runs.proofs.run.Ran.finish.Goals as goal

@@ -1,5 +1,5 @@
-use Rattle.std.proofs.Common.{◌≡◌, ◌+◌, ◌≤◌, ◌++◌, map, replicate, vec_items, vec_len, vec_capacity}
-use Rattle.runs.specs.Entries.{entry_of, ticks}
+use Rattle.std.proofs.Common.{◌≡◌, ◌+◌, ◌≤◌, replicate, vec_len, vec_capacity}
+use Rattle.runs.specs.Entries.{ticks}
 use Rattle.scanner.specs.Plans.{draft, with_calls}
 use Rattle.scanner.proofs.plan.Plan.tick.Given as goal
 
