@@ -1,5 +1,7 @@
 // The work that is timed against the peer. Each function makes a whole loop of calls, so that the
 // crossing into it does not count.
+#![tactic(auto)]
+
 use admission::refusal::Refusal;
 use admission::task::{Segment, Task};
 use controller::controller::Controller;
