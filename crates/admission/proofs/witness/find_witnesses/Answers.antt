@@ -20,7 +20,7 @@ tasks-preserved c =
     let tasks = c.args.tasks.now in
     let attempt = c.args.attempt in (
       elim c.match-place_ranked.branch [
-        | in-Some+then-needed-t w ↦ rw (w.witnesses-is, length-set c.tasks.witnesses w.in-Some.place w.times.t) c.tasks.invariant.0
+        | in-Some+then-needed-t w ↦ rw (w.witnesses-is, length-set _ _ _) c.tasks.invariant.0
         | in_default w ↦ rw w.witnesses-is c.tasks.invariant.0
       ],
       omega arith,
