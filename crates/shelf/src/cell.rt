@@ -5,7 +5,7 @@ ghost use Rattle.std.proofs.Common.{rules};
 use crate::interface::Shelf;
 
 // One number, as object 0. The number is the reading, and a committed word replaces it.
-#[derive(Drop)]
+#[derive(Debug, PartialEq, Eq, Default, Drop)]
 pub struct Cell {
     value: u32,
 }
