@@ -32,11 +32,11 @@ pub extern "C" fn bench_adoptions(
 ) -> u64 {
     let mut controller = new_controller();
     let mut sum: u64 = 0;
+    // A loop: in a chain the closure would hold the controller and the records for writing.
     for _ in 0..rounds {
-        let answer = match controller.adopt(rule, tasks, segments) {
-            Ok(answer) => answer,
-            Err(refusal) => refusal.number(),
-        };
+        let answer = controller
+            .adopt(rule, tasks, segments)
+            .unwrap_or_else(|refusal| refusal.number());
         sum = sum.wrapping_add(answer as u64);
     }
     sum
@@ -44,10 +44,9 @@ pub extern "C" fn bench_adoptions(
 
 // One more tick in a sum over all answers.
 fn with_tick(sum: u64, tick: Result<Ticked, Refusal>) -> u64 {
-    let told = match tick {
-        Ok(tick) => tick.event.number() as u64 + tick.event.word() as u64 + tick.place as u64,
-        Err(refusal) => refusal.number() as u64,
-    };
+    let told = tick
+        .map(|tick| tick.event.number() as u64 + tick.event.word() as u64 + tick.place as u64)
+        .unwrap_or_else(|refusal| refusal.number() as u64);
     sum.wrapping_mul(31).wrapping_add(told)
 }
 
@@ -65,6 +64,7 @@ pub extern "C" fn bench_ticks(
     let _ = controller.adopt(rule, tasks, segments);
     let (_opened, token) = controller.open();
     let places = tasks.len().min(32) as u32;
+    // Counters, not the remainder by the period: a division in each tick would be timed too.
     let mut due = 0;
     let mut left: u32 = 0;
     let mut sum: u64 = 0;
@@ -80,8 +80,8 @@ pub extern "C" fn bench_ticks(
         }
         sum = with_tick(sum, controller.tick());
     }
-    match controller.close(token) {
-        Ok(sums) => sum.wrapping_add(sums.retries as u64),
-        Err(refusal) => refusal.number() as u64,
-    }
+    controller
+        .close(token)
+        .map(|sums| sum.wrapping_add(sums.retries as u64))
+        .unwrap_or_else(|refusal| refusal.number() as u64)
 }

@@ -50,18 +50,7 @@ mod tests {
 
     // The number of a refusal, or 0.
     fn number(answer: Result<u32, Refusal>) -> u32 {
-        match answer {
-            Ok(_) => 0,
-            Err(refusal) => refusal.number(),
-        }
-    }
-
-    // The value of an answer; 0 for a refusal.
-    fn value(answer: Result<u32, Refusal>) -> u32 {
-        match answer {
-            Ok(value) => value,
-            Err(_) => 0,
-        }
+        answer.err().map_or(0, |refusal| refusal.number())
     }
 
     fn run_for(controller: &mut Controller<Cell>, ticks: u32) {
@@ -74,7 +63,10 @@ mod tests {
     fn table_a_is_taken(rt: HostRuntime) {
         let mut controller = Controller::new(Cell::new(0));
         let mut tasks = tasks_a(15);
-        assert_eq!(rt; value(controller.adopt(1, &mut tasks, &segments_a())), 15);
+        assert_eq!(rt;
+            controller.adopt(1, &mut tasks, &segments_a()).unwrap_or(0),
+            15
+        );
         assert_eq!(rt; tasks[0].rank, 0);
         assert_eq!(rt; tasks[0].witness, 2);
         assert_eq!(rt; tasks[1].rank, 1);
@@ -96,13 +88,13 @@ mod tests {
     fn release_waits_for_the_period(rt: HostRuntime) {
         let mut controller = Controller::new(Cell::new(0));
         let mut tasks = tasks_a(15);
-        let greatest = value(controller.adopt(1, &mut tasks, &segments_a()));
+        let greatest = controller.adopt(1, &mut tasks, &segments_a()).unwrap_or(0);
         let (_, token) = controller.open();
-        let first = value(controller.release(0));
+        let first = controller.release(0).unwrap_or(0);
         run_for(&mut controller, 4);
         let early = number(controller.release(0));
         run_for(&mut controller, 1);
-        let second = value(controller.release(0));
+        let second = controller.release(0).unwrap_or(0);
         let _ = controller.close(token);
         assert_eq!(rt; greatest, 15);
         assert_eq!(rt; first, 5);
