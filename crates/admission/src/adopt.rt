@@ -3,21 +3,19 @@ ghost use Rattle.admission.specs.Held.{held, Decided};
 ghost use Rattle.admission.specs.Tables.{empty_table, no_adopted_task};
 ghost use Rattle.admission.specs.Verdicts.{verdict, answered, held_after, list_after, stamped_by, answer_of, demanded};
 
-use crate::demand::demand_within;
 use crate::length::longest_attempt;
 use crate::limit::{check_tasks, rule_numbered};
 use crate::measure::{adopted_tasks, plans_of};
 use crate::plan::{AdoptedTask, Plan, Rule, Step};
 use crate::rank::order_of;
 use crate::refusal::Refusal;
+use crate::span::Span;
 use crate::table::AdoptedTable;
 use crate::task::{Segment, Task};
-use crate::test::test;
+use crate::task_set::TaskSet;
 use shelf::interface::Shelf;
 
 const MAX_TASKS: usize = 32;
-
-const MAX_TIME: u32 = 1_000_000;
 
 // A table that is to be taken, and what the call answers.
 #[derive(Drop)]
@@ -45,7 +43,11 @@ fn decide<S: Shelf>(
     check_tasks(shelf, segments, tasks)?;
     let attempt = longest_attempt(segments, tasks);
     let adopted = adopted_tasks(rule, segments, tasks);
-    let passed = test(rule, &adopted[0..count], attempt)?;
+    let set = TaskSet {
+        tasks: &adopted[0..count],
+        attempt,
+    };
+    let passed = set.test(rule)?;
     let witnesses = passed.witnesses;
     let plans = plans_of(segments, tasks);
     let order = order_of(rule, &adopted[0..count]);
@@ -126,11 +128,8 @@ impl AdoptedTable {
         if place >= self.count {
             return Err(Refusal::NoPlace);
         }
-        if t == 0 || t > MAX_TIME {
-            return Err(Refusal::TimeRange);
-        }
+        let span = Span::try_from(t)?;
         let rank = self.tasks[place].rank;
-        let tasks = &self.tasks[0..self.count];
-        Ok(demand_within(self.rule, tasks, self.attempt, rank, t))
+        Ok(self.task_set().demand_within(self.rule, rank, span))
     }
 }

@@ -5,6 +5,7 @@ ghost use Rattle.admission.specs.Tests.{Ordered};
 
 use crate::plan::{AdoptedTask, Rule, Step};
 use crate::table::AdoptedTable;
+use crate::task_set::TaskSet;
 
 impl AdoptedTable {
     // How its jobs are ordered.
@@ -20,6 +21,17 @@ impl AdoptedTable {
         ensures few { length result.now ≤ 32 }
     {
         &self.tasks[0..self.count]
+    }
+
+    // The tasks with the longest attempt, as they were tested.
+    pub(crate) fn task_set(&self) -> TaskSet<'_>
+        ensures tasks { result.tasks.now ≡ (held self.now).tasks }
+        ensures attempt { result.attempt ≡ (held self.now).attempt }
+    {
+        TaskSet {
+            tasks: self.tasks(),
+            attempt: self.attempt,
+        }
     }
 
     // By rank: the places, the most urgent first.

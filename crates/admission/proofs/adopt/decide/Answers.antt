@@ -27,6 +27,17 @@ plans_of-plans-requires g c =
     let f = fits (g.S.Shelf.model c.args.shelf.now).rules c.args.segments.now c.args.tasks.now _ _ c.check_tasks.ensures c.in_ok-check_tasks.was in
     (omega arith, f)
 
+pub invariant_of-set : goal.invariant_of-set
+invariant_of-set g c =
+    let tasks = c.args.tasks.now in
+    let segments = c.args.segments.now in
+    let rule = c.in-Some.rule in
+    let f = fits (g.S.Shelf.model c.args.shelf.now).rules segments tasks _ _ c.check_tasks.ensures c.in_ok-check_tasks.was in
+    let r : Ready rule (take (length tasks - 0) c.adopted_tasks-adopted.result) =
+    subst (λ (xs : List AdoptedTask). Ready rule xs) (sym (front rule segments tasks _ c.adopted_tasks-adopted.ensures))
+    (ready rule segments tasks (omega arith) f) in
+    record { few = r.0; limits = r.1; short = c.longest_attempt-attempt.ensures.short }
+
 pub test-requires : goal.test-requires
 test-requires g c =
     let tasks = c.args.tasks.now in
@@ -36,7 +47,7 @@ test-requires g c =
     let r : Ready rule (take (length tasks - 0) c.adopted_tasks-adopted.result) =
     subst (λ (xs : List AdoptedTask). Ready rule xs) (sym (front rule segments tasks _ c.adopted_tasks-adopted.ensures))
     (ready rule segments tasks (omega arith) f) in
-    (r.0, (r.1, (r.2, c.longest_attempt-attempt.ensures.short)))
+    r.2
 
 pub order_of-order-requires : goal.order_of-order-requires
 order_of-order-requires g c =

@@ -1,6 +1,6 @@
 use Rattle.std.proofs.Common.{arith}
 use Rattle.admission.proofs.Ranges.{sum_more, sum_all}
-use Rattle.admission.proofs.demand.demand_within.Goals as goal
+use Rattle.admission.proofs.task_set.TaskSet.demand_within.Goals as goal
 
 pub loop-task-preserved : goal.loop-task-preserved
 loop-task-preserved c = (
