@@ -3,7 +3,6 @@ ghost use Rattle.admission.specs.Demand.{ceiling, work_by_rank, charge_by_rank, 
 ghost use Rattle.admission.specs.Limits.{NumberLimits};
 
 use crate::plan::{AdoptedTask, Rule};
-use crate::rank::is_by_rank;
 use crate::span::Span;
 use crate::task_set::TaskSet;
 
@@ -61,7 +60,7 @@ fn share(rule: Rule, task: &AdoptedTask, attempt: u32, rank: u32, span: Span) ->
     ensures charge { result.1 ≡ charge_share rule attempt rank span.ticks task.now }
     ensures small { (result.0 ≤ 1600000000000) × (result.1 ≤ 130000000) }
 {
-    if is_by_rank(rule) {
+    if rule.is_by_rank() {
         share_by_rank(task, attempt, rank, span)
     } else {
         share_by_deadline(task, attempt, span)

@@ -7,6 +7,7 @@ pub mod hyperperiod;
 pub mod law;
 pub mod length;
 pub mod limit;
+mod lists;
 pub mod lookup;
 pub mod measure;
 pub mod overrun;

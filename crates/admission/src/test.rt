@@ -7,17 +7,18 @@ ghost use Rattle.admission.specs.Tests.{Ranked, hyperperiod_of};
 ghost use Rattle.admission.specs.Verdicts.{deadlines_no, unless};
 
 use crate::plan::Rule;
-use crate::rank::is_by_rank;
 use crate::refusal::Refusal;
+use crate::table::front;
 use crate::task_set::TaskSet;
+use arrayvec::ArrayVec;
 
 // What a table that passes its test is given.
-#[derive(Clone, Copy)]
+#[derive(Drop)]
 pub struct Passed {
     // The greatest witness, or the hyperperiod.
     pub answer: u32,
     // The least witness of each task, by its place; 0 under earliest deadline first.
-    pub witnesses: [u32; 32],
+    pub witnesses: ArrayVec<u32, 32>,
 }
 
 fn greatest(numbers: &[u32]) -> u32
@@ -37,7 +38,7 @@ impl TaskSet<'_> {
         ensures { Tested rule self.now.attempt self.now.tasks.now result }
     {
         let witnesses = self.find_witnesses()?;
-        let answer = greatest(&witnesses[0..self.tasks.len()]);
+        let answer = greatest(&witnesses);
         Ok(Passed { answer, witnesses })
     }
 
@@ -60,13 +61,13 @@ impl TaskSet<'_> {
         requires { (goes_by_rank rule ≡ true → Ranked self.now.tasks.now) }
         ensures { Tested rule self.now.attempt self.now.tasks.now result }
     {
-        if is_by_rank(rule) {
+        if rule.is_by_rank() {
             return self.test_by_rank(rule);
         }
         let answer = self.test_by_deadline()?;
         Ok(Passed {
             answer,
-            witnesses: [0; 32],
+            witnesses: front([0; 32], self.tasks.len()),
         })
     }
 }

@@ -6,7 +6,9 @@ ghost use Rattle.admission.specs.Verdicts.{ranks_no};
 use crate::plan::{AdoptedTask, Rule};
 use crate::refusal::Refusal;
 use crate::span::Span;
+use crate::table::front;
 use crate::task_set::TaskSet;
+use arrayvec::ArrayVec;
 
 // The place of the task that has a rank.
 fn place_ranked(tasks: &[AdoptedTask], rank: u32) -> Option<usize>
@@ -18,11 +20,11 @@ fn place_ranked(tasks: &[AdoptedTask], rank: u32) -> Option<usize>
 impl TaskSet<'_> {
     // The least witness of each task, by its place. The tasks are asked in the order of their ranks,
     // and the first that has none is refused.
-    pub(crate) fn find_witnesses(&self) -> Result<[u32; 32], Refusal>
+    pub(crate) fn find_witnesses(&self) -> Result<ArrayVec<u32, 32>, Refusal>
         requires { Ranked self.now.tasks.now }
         ensures unmet { MatchResult result (λ _. lowest_unmet self.now.attempt self.now.tasks.now ≡ None) (λ refusal. ranks_no self.now.attempt self.now.tasks.now ≡ Some refusal) }
-        ensures long { IfOk result (λ witnesses. length witnesses ≡ 32) }
-        ensures least { IfOk result (λ witnesses. (place : ℕ) → place < length self.now.tasks.now → least_witness self.now.attempt self.now.tasks.now place ≡ Some (slice_index witnesses place)) }
+        ensures long { IfOk result (λ witnesses. length witnesses.items ≡ length self.now.tasks.now) }
+        ensures least { IfOk result (λ witnesses. (place : ℕ) → place < length self.now.tasks.now → least_witness self.now.attempt self.now.tasks.now place ≡ Some (slice_index witnesses.items place)) }
     {
         let mut witnesses = [0; 32];
         'tasks: {
@@ -46,7 +48,7 @@ impl TaskSet<'_> {
                     };
                 }
             }
-            Ok(witnesses)
+            Ok(front(witnesses, self.tasks.len()))
         }
     }
 }
