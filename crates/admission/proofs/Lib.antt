@@ -16,5 +16,3 @@ pub mod Exact
 pub mod Limited
 pub mod Tested
 pub mod Deciding
-pub mod Asking
-pub mod Looking

@@ -11,6 +11,9 @@ pub record SegmentLimits (s : Segment) : Type 0 where
   pub few : ticks_of s ≤ 100000
   pub short : attempt_of s ≤ 65
 
+abbrev pub EachSegment : List Segment → Type 0
+EachSegment segments = (k : ℕ) → k < length segments → SegmentLimits (slice_index_or segments k no_segment)
+
 pub record TaskLimits (segments : List Segment) (task : Task) : Type 0 where
   pub period_some : 1 ≤ task.period
   pub period_most : task.period ≤ 1000000

@@ -1,5 +1,5 @@
 -- What adoption answers and leaves: the questions in their order, and the table that is taken.
-use Rattle.std.specs.Prelude.{ℕ, ◌+◌, Bool, true, false, cond, ◌&&◌, ◌||◌, List, [], ◌∷◌, length, get_or, Some, None, Ok, Err, Option, Result, ◌==◌, nat_le, nat_lt, slice_index, slice_index_or}
+use Rattle.std.specs.Prelude.{◌≡◌, ℕ, ◌+◌, Bool, true, false, cond, ◌&&◌, ◌||◌, List, [], ◌∷◌, length, get_or, Some, None, Ok, Err, Option, Result, MatchResult, ◌==◌, nat_le, nat_lt, slice_index, slice_index_or}
 use Rattle.std.specs.Option.{option_map, unwrap_or}
 use Rattle.shelf.specs.Models.{Rules}
 use Rattle.admission.specs.declared.task.Segment.{Segment}
@@ -34,6 +34,10 @@ abbrev pub rule_of_number : ℕ → Option Rule
 rule_of_number n =
     cond (n == 1) (Some RateMonotonic)
     (cond (n == 2) (Some DeadlineMonotonic) (cond (n == 3) (Some EarliestDeadlineFirst) None))
+
+-- the rule of a number, or the refusal of one that has none
+abbrev pub HasNumber : ℕ → Result Rule Refusal → Type 0
+HasNumber n result = MatchResult result (λ rule. rule_of_number n ≡ Some rule) (λ e. (rule_of_number n ≡ None) × (e ≡ UnknownRule))
 
 -- the limits of a record
 abbrev pub has_fit_times : Task → Bool

@@ -3,21 +3,17 @@ ghost use Rattle.admission.specs.Held.{held, Decided};
 ghost use Rattle.admission.specs.Tables.{empty_table, no_adopted_task};
 ghost use Rattle.admission.specs.Verdicts.{verdict, answered, held_after, list_after, stamped_by, answer_of, demanded};
 
-use crate::demand::demand_within;
-use crate::length::longest_attempt;
-use crate::limit::{check_tasks, rule_numbered};
-use crate::measure::{adopted_tasks, plans_of};
-use crate::plan::{AdoptedTask, Plan, Rule, Step};
-use crate::rank::order_of;
+use crate::limit::check_lists;
+use crate::plan::{AdoptedTask, Rule};
 use crate::refusal::Refusal;
+use crate::span::Span;
 use crate::table::AdoptedTable;
 use crate::task::{Segment, Task};
-use crate::test::test;
+use crate::task_set::TaskSet;
+use arrayvec::ArrayVec;
 use shelf::interface::Shelf;
 
 const MAX_TASKS: usize = 32;
-
-const MAX_TIME: u32 = 1_000_000;
 
 // A table that is to be taken, and what the call answers.
 #[derive(Drop)]
@@ -35,27 +31,25 @@ fn decide<S: Shelf>(
 ) -> Result<Decision, Refusal>
     ensures { Decided (verdict (S.Shelf.model shelf.now).rules number tasks.now segments.now) (length tasks.now) result }
 {
-    let count = tasks.len();
-    if count == 0 || count > MAX_TASKS {
+    if tasks.is_empty() || tasks.len() > MAX_TASKS {
         return Err(Refusal::TaskCount);
     }
-    let Some(rule) = rule_numbered(number) else {
-        return Err(Refusal::UnknownRule);
+    let rule = Rule::try_from(number)?;
+    let lists = check_lists(shelf, segments, tasks)?;
+    let attempt = lists.longest_attempt();
+    let adopted = lists.adopted_tasks(rule);
+    let set = TaskSet {
+        tasks: &adopted,
+        attempt,
     };
-    check_tasks(shelf, segments, tasks)?;
-    let attempt = longest_attempt(segments, tasks);
-    let adopted = adopted_tasks(rule, segments, tasks);
-    let passed = test(rule, &adopted[0..count], attempt)?;
-    let witnesses = passed.witnesses;
-    let plans = plans_of(segments, tasks);
-    let order = order_of(rule, &adopted[0..count]);
+    let passed = set.test(rule)?;
+    let order = set.order(rule);
     let table = AdoptedTable {
         rule,
-        count,
         attempt,
         tasks: adopted,
-        witnesses,
-        plans,
+        witnesses: passed.witnesses,
+        plans: lists.plans(),
         order,
     };
     Ok(Decision {
@@ -69,9 +63,9 @@ fn stamp(tasks: &mut [Task], adopted: &[AdoptedTask], witnesses: &[u32])
     requires { (length tasks.old ≤ length adopted.now) × (length tasks.old ≤ length witnesses.now) }
     ensures { tasks.new ≡ stamped_by adopted.now witnesses.now tasks.old }
 {
-    for place in 0..tasks.len() {
-        tasks[place].rank = adopted[place].rank;
-        tasks[place].witness = witnesses[place];
+    for (place, task) in tasks.iter_mut().enumerate() {
+        task.rank = adopted[place].rank;
+        task.witness = witnesses[place];
     }
 }
 
@@ -82,20 +76,11 @@ impl AdoptedTable {
     {
         AdoptedTable {
             rule: Rule::RateMonotonic,
-            count: 0,
             attempt: 0,
-            tasks: [AdoptedTask {
-                period: 0,
-                deadline: 0,
-                cost: 0,
-                rank: 0,
-            }; 32],
-            witnesses: [0; 32],
-            plans: [Plan {
-                count: 0,
-                steps: [Step::Compute { ticks: 0 }; 8],
-            }; 32],
-            order: [0; 32],
+            tasks: ArrayVec::new(),
+            witnesses: ArrayVec::new(),
+            plans: ArrayVec::new(),
+            order: ArrayVec::new(),
         }
     }
 
@@ -123,14 +108,11 @@ impl AdoptedTable {
         ensures { result ≡ demanded (held self.now) place t }
     {
         let place = place as usize;
-        if place >= self.count {
+        if place >= self.tasks.len() {
             return Err(Refusal::NoPlace);
         }
-        if t == 0 || t > MAX_TIME {
-            return Err(Refusal::TimeRange);
-        }
+        let span = Span::try_from(t)?;
         let rank = self.tasks[place].rank;
-        let tasks = &self.tasks[0..self.count];
-        Ok(demand_within(self.rule, tasks, self.attempt, rank, t))
+        Ok(self.task_set().demand_within(self.rule, rank, span))
     }
 }

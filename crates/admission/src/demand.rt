@@ -1,9 +1,10 @@
 ghost use Rattle.std.specs.Prelude.{◌≡◌, ℕ, ◌+◌, ◌-◌, ◌*◌, ◌/◌, ◌≤◌, length};
-ghost use Rattle.admission.specs.Demand.{ceiling, work_by_rank, charge_by_rank, work_by_deadline, charge_by_deadline, work_share, charge_share, work_within, charge_within};
-ghost use Rattle.admission.specs.Limits.{NumberLimits, AdoptedLimits};
+ghost use Rattle.admission.specs.Demand.{ceiling, work_by_rank, charge_by_rank, work_by_deadline, charge_by_deadline, work_share, charge_share, work_within, charge_within, demand_by_deadline};
+ghost use Rattle.admission.specs.Limits.{NumberLimits};
 
 use crate::plan::{AdoptedTask, Rule};
-use crate::rank::is_by_rank;
+use crate::span::Span;
+use crate::task_set::TaskSet;
 
 // How many whole periods there are in `span` ticks, and in one tick less. One division does for
 // both: the tests spend their time here.
@@ -20,17 +21,17 @@ fn periods_in(span: u32, period: u32) -> (u32, u32)
     }
 }
 
-// By rank: the work and the retry charge that one task adds within `t` ticks.
-fn share_by_rank(task: &AdoptedTask, attempt: u32, rank: u32, t: u32) -> (u64, u64)
-    requires { (NumberLimits task.now) × ((attempt ≤ 65) × ((1 ≤ t) × (t ≤ 1000000))) }
-    ensures work { result.0 ≡ work_by_rank rank t task.now }
-    ensures charge { result.1 ≡ charge_by_rank attempt rank t task.now }
+// By rank: the work and the retry charge that one task adds within a span.
+fn share_by_rank(task: &AdoptedTask, attempt: u32, rank: u32, span: Span) -> (u64, u64)
+    requires { (NumberLimits task.now) × (attempt ≤ 65) }
+    ensures work { result.0 ≡ work_by_rank rank span.ticks task.now }
+    ensures charge { result.1 ≡ charge_by_rank attempt rank span.ticks task.now }
     ensures small { (result.0 ≤ 1600000000000) × (result.1 ≤ 130000000) }
 {
     if task.rank > rank {
         return (0, 0);
     }
-    let (jobs, before) = periods_in(t + (task.period - 1), task.period);
+    let (jobs, before) = periods_in(span.ticks + (task.period - 1), task.period);
     let work = jobs as u64 * task.cost as u64;
     if task.rank == rank {
         return (work, 0);
@@ -38,54 +39,57 @@ fn share_by_rank(task: &AdoptedTask, attempt: u32, rank: u32, t: u32) -> (u64, u
     (work, before as u64 * attempt as u64)
 }
 
-// By deadline: the work and the retry charge that one task adds within `t` ticks.
-fn share_by_deadline(task: &AdoptedTask, attempt: u32, t: u32) -> (u64, u64)
-    requires { (NumberLimits task.now) × ((attempt ≤ 65) × ((1 ≤ t) × (t ≤ 1000000))) }
-    ensures work { result.0 ≡ work_by_deadline t task.now }
-    ensures charge { result.1 ≡ charge_by_deadline attempt t task.now }
+// By deadline: the work and the retry charge that one task adds within a span.
+fn share_by_deadline(task: &AdoptedTask, attempt: u32, span: Span) -> (u64, u64)
+    requires { (NumberLimits task.now) × (attempt ≤ 65) }
+    ensures work { result.0 ≡ work_by_deadline span.ticks task.now }
+    ensures charge { result.1 ≡ charge_by_deadline attempt span.ticks task.now }
     ensures small { (result.0 ≤ 1600000000000) × (result.1 ≤ 130000000) }
 {
-    let (jobs, before) = periods_in(t + task.period - task.deadline, task.period);
+    let (jobs, before) = periods_in(span.ticks + task.period - task.deadline, task.period);
     (
         jobs as u64 * task.cost as u64,
         before as u64 * attempt as u64,
     )
 }
 
-// The work and the retry charge that one task adds within `t` ticks.
-fn share(rule: Rule, task: &AdoptedTask, attempt: u32, rank: u32, t: u32) -> (u64, u64)
-    requires { (NumberLimits task.now) × ((attempt ≤ 65) × ((1 ≤ t) × (t ≤ 1000000))) }
-    ensures work { result.0 ≡ work_share rule rank t task.now }
-    ensures charge { result.1 ≡ charge_share rule attempt rank t task.now }
+// The work and the retry charge that one task adds within a span.
+fn share(rule: Rule, task: &AdoptedTask, attempt: u32, rank: u32, span: Span) -> (u64, u64)
+    requires { (NumberLimits task.now) × (attempt ≤ 65) }
+    ensures work { result.0 ≡ work_share rule rank span.ticks task.now }
+    ensures charge { result.1 ≡ charge_share rule attempt rank span.ticks task.now }
     ensures small { (result.0 ≤ 1600000000000) × (result.1 ≤ 130000000) }
 {
-    if is_by_rank(rule) {
-        share_by_rank(task, attempt, rank, t)
+    if rule.is_by_rank() {
+        share_by_rank(task, attempt, rank, span)
     } else {
-        share_by_deadline(task, attempt, t)
+        share_by_deadline(task, attempt, span)
     }
 }
 
-// The work and the retry charge within `t` ticks: by rank, of the tasks ranked up to `rank`; by
-// deadline, of all tasks.
-pub(crate) fn demand_within(
-    rule: Rule,
-    tasks: &[AdoptedTask],
-    attempt: u32,
-    rank: u32,
-    t: u32,
-) -> (u64, u64)
-    requires { (length tasks.now ≤ 32) × ((AdoptedLimits tasks.now) × ((attempt ≤ 65) × ((1 ≤ t) × (t ≤ 1000000)))) }
-    ensures work { result.0 ≡ work_within rule tasks.now rank t }
-    ensures charge { result.1 ≡ charge_within rule attempt tasks.now rank t }
-    ensures small { result.0 + result.1 ≤ 60000000000000 }
-{
-    let mut work: u64 = 0;
-    let mut charge: u64 = 0;
-    for task in tasks {
-        let (more_work, more_charge) = share(rule, task, attempt, rank, t);
-        work += more_work;
-        charge += more_charge;
+impl TaskSet<'_> {
+    // The work and the retry charge within a span: by rank, of the tasks ranked up to `rank`; by
+    // deadline, of all tasks, and the rank does not matter.
+    pub(crate) fn demand_within(&self, rule: Rule, rank: u32, span: Span) -> (u64, u64)
+        ensures work { result.0 ≡ work_within rule self.now.tasks.now rank span.ticks }
+        ensures charge { result.1 ≡ charge_within rule self.now.attempt self.now.tasks.now rank span.ticks }
+        ensures small { result.0 + result.1 ≤ 60000000000000 }
+    {
+        let mut work: u64 = 0;
+        let mut charge: u64 = 0;
+        for task in self.tasks {
+            let (more_work, more_charge) = share(rule, task, self.attempt, rank, span);
+            work += more_work;
+            charge += more_charge;
+        }
+        (work, charge)
     }
-    (work, charge)
+
+    // What the jobs released and due within a span can ask for.
+    pub(crate) fn demand_by_deadline(&self, span: Span) -> u64
+        ensures { result ≡ demand_by_deadline self.now.attempt self.now.tasks.now span.ticks }
+    {
+        let (work, charge) = self.demand_within(Rule::EarliestDeadlineFirst, 0, span);
+        work + charge
+    }
 }

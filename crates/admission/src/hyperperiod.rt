@@ -1,9 +1,9 @@
-ghost use Rattle.std.specs.Prelude.{◌≡◌, ℕ, ◌<◌, ◌≤◌, length, IfSome};
-ghost use Rattle.admission.specs.Limits.{AdoptedLimits};
+ghost use Rattle.std.specs.Prelude.{◌≡◌, ℕ, ◌<◌, ◌≤◌, length, IfSome, MatchOption, Some, None};
 ghost use Rattle.admission.specs.Multiples.{IsGcd, IsLcm, IsHyperperiod};
 ghost use Rattle.admission.specs.Tests.{hyperperiod_of, load_of};
 
-use crate::plan::AdoptedTask;
+use crate::span::Span;
+use crate::task_set::TaskSet;
 
 // The longest hyperperiod of a table that is taken.
 const MAX_HYPERPERIOD: u64 = 1_000_000;
@@ -24,31 +24,33 @@ fn lcm(a: u64, b: u64) -> u64
     a / gcd(a, b) * b
 }
 
-// The least common multiple of the periods, if it is at most 1,000,000.
-pub(crate) fn hyperperiod(tasks: &[AdoptedTask]) -> Option<u32>
-    requires { AdoptedLimits tasks.now }
-    ensures is { result ≡ hyperperiod_of tasks.now }
-    ensures least { IfSome result (λ p. (p ≤ 1000000) × IsHyperperiod tasks.now (length tasks.now) p) }
-{
-    let mut multiple: u64 = 1;
-    for task in tasks {
-        multiple = lcm(multiple, task.period as u64);
-        if multiple > MAX_HYPERPERIOD {
-            return None;
+impl TaskSet<'_> {
+    // The least common multiple of the periods, if it is at most 1,000,000.
+    pub(crate) fn hyperperiod(&self) -> Option<Span>
+        ensures is { MatchOption result (hyperperiod_of self.now.tasks.now ≡ None) (λ p. hyperperiod_of self.now.tasks.now ≡ Some p.ticks) }
+        ensures least { IfSome result (λ p. IsHyperperiod self.now.tasks.now (length self.now.tasks.now) p.ticks) }
+    {
+        let mut multiple: u64 = 1;
+        for task in self.tasks {
+            multiple = lcm(multiple, task.period as u64);
+            if multiple > MAX_HYPERPERIOD {
+                return None;
+            }
         }
+        Some(Span {
+            ticks: multiple as u32,
+        })
     }
-    Some(multiple as u32)
-}
 
-// The ticks that the jobs of one hyperperiod take, each at its cost and one attempt more.
-pub(crate) fn load(tasks: &[AdoptedTask], attempt: u32, hyperperiod: u32) -> u64
-    requires { (length tasks.now ≤ 32) × ((AdoptedLimits tasks.now) × ((attempt ≤ 65) × (hyperperiod ≤ 1000000))) }
-    ensures { result ≡ load_of attempt tasks.now hyperperiod }
-{
-    let mut sum: u64 = 0;
-    for task in tasks {
-        let jobs = (hyperperiod / task.period) as u64;
-        sum += jobs * (task.cost + attempt) as u64;
+    // The ticks that the jobs of one hyperperiod take, each at its cost and one attempt more.
+    pub(crate) fn load(&self, hyperperiod: Span) -> u64
+        ensures { result ≡ load_of self.now.attempt self.now.tasks.now hyperperiod.ticks }
+    {
+        let mut sum: u64 = 0;
+        for task in self.tasks {
+            let jobs = (hyperperiod.ticks / task.period) as u64;
+            sum += jobs * (task.cost + self.attempt) as u64;
+        }
+        sum
     }
-    sum
 }

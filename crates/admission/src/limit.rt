@@ -1,7 +1,7 @@
-ghost use Rattle.std.specs.Prelude.{◌≡◌, ℕ, ◌+◌, ◌≤◌, Bool, length};
-ghost use Rattle.admission.specs.Verdicts.{has_fit_times, has_fit_range, has_fit_size, has_object, segments_no, task_no, tasks_no, rule_of_number, unless};
+ghost use Rattle.std.specs.Prelude.{◌≡◌, ℕ, ◌+◌, ◌≤◌, Bool, length, IfOk, MatchResult};
+ghost use Rattle.admission.specs.Verdicts.{has_fit_times, has_fit_range, has_fit_size, has_object, segments_no, task_no, tasks_no, unless};
 
-use crate::plan::Rule;
+use crate::lists::Lists;
 use crate::refusal::Refusal;
 use crate::task::{Segment, Task};
 use shelf::interface::Shelf;
@@ -13,18 +13,6 @@ const MAX_SEGMENTS: u32 = 8;
 const MAX_COMPUTING: u32 = 100_000;
 
 const MAX_WORDS: u32 = 255;
-
-// The rule that a number stands for.
-pub fn rule_numbered(number: u32) -> Option<Rule>
-    ensures { result ≡ rule_of_number number }
-{
-    match number {
-        1 => Some(Rule::RateMonotonic),
-        2 => Some(Rule::DeadlineMonotonic),
-        3 => Some(Rule::EarliestDeadlineFirst),
-        _ => None,
-    }
-}
 
 fn times_fit(task: &Task) -> bool
     ensures { result ≡ has_fit_times task.now }
@@ -94,19 +82,18 @@ fn check_task<S: Shelf>(
     check_segments(shelf, place, &segments[first..end])
 }
 
-// Whether all tasks are within the limits.
-pub(crate) fn check_tasks<S: Shelf>(
+// The lists, if all tasks are within the limits.
+pub(crate) fn check_lists<'a, S: Shelf>(
     shelf: &S,
-    segments: &[Segment],
-    tasks: &[Task],
-) -> Result<(), Refusal>
+    segments: &'a [Segment],
+    tasks: &'a [Task],
+) -> Result<Lists<'a>, Refusal>
     requires { length tasks.now ≤ 32 }
-    ensures { result ≡ unless (tasks_no (S.Shelf.model shelf.now).rules segments.now 0 tasks.now) tt }
+    ensures lists { IfOk result (λ lists. (lists.segments.now ≡ segments.now) × (lists.tasks.now ≡ tasks.now)) }
+    ensures answer { MatchResult result (λ _. tasks_no (S.Shelf.model shelf.now).rules segments.now 0 tasks.now ≡ None) (λ e. tasks_no (S.Shelf.model shelf.now).rules segments.now 0 tasks.now ≡ Some e) }
 {
-    let mut place: u32 = 0;
-    for task in tasks {
-        check_task(shelf, segments, place, task)?;
-        place += 1;
+    for (place, task) in tasks.iter().enumerate() {
+        check_task(shelf, segments, place as u32, task)?;
     }
-    Ok(())
+    Ok(Lists { tasks, segments })
 }

@@ -5,6 +5,7 @@ ghost use Rattle.admission.specs.Tests.{Ordered};
 
 use crate::plan::{AdoptedTask, Rule, Step};
 use crate::table::AdoptedTable;
+use crate::task_set::TaskSet;
 
 impl AdoptedTable {
     // How its jobs are ordered.
@@ -19,7 +20,18 @@ impl AdoptedTable {
         ensures are { result.now ≡ (held self.now).tasks }
         ensures few { length result.now ≤ 32 }
     {
-        &self.tasks[0..self.count]
+        &self.tasks
+    }
+
+    // The tasks with the longest attempt, as they were tested.
+    pub(crate) fn task_set(&self) -> TaskSet<'_>
+        ensures tasks { result.tasks.now ≡ (held self.now).tasks }
+        ensures attempt { result.attempt ≡ (held self.now).attempt }
+    {
+        TaskSet {
+            tasks: self.tasks(),
+            attempt: self.attempt,
+        }
     }
 
     // By rank: the places, the most urgent first.
@@ -27,7 +39,7 @@ impl AdoptedTable {
         ensures long { length result.now ≡ length (held self.now).tasks }
         ensures ordered { goes_by_rank (held self.now).rule ≡ true → Ordered (held self.now).tasks result.now }
     {
-        &self.order[0..self.count]
+        &self.order
     }
 
     // The steps of the jobs of a place; none if there is no such place.
@@ -35,23 +47,17 @@ impl AdoptedTable {
         ensures are { result.now ≡ plan_at (held self.now).plans place }
         ensures few { length result.now ≤ 8 }
     {
-        if place >= self.count {
-            return &[];
+        match self.plans.get(place) {
+            Some(plan) => plan,
+            None => &[],
         }
-        let plan = &self.plans[place];
-        let steps = &plan.steps[..];
-        &steps[0..plan.count]
     }
+
     // A step of the jobs of a place.
     pub fn step(&self, place: usize, index: usize) -> Option<Step>
         ensures is { result ≡ slice_get (plan_at (held self.now).plans place) index }
         ensures few { OnSome result (index < 8) }
     {
-        let steps = self.plan(place);
-        if index < steps.len() {
-            Some(steps[index])
-        } else {
-            None
-        }
+        self.plan(place).get(index).copied()
     }
 }

@@ -1,15 +1,52 @@
-ghost use Rattle.std.specs.Prelude.{◌≤◌};
+ghost use Rattle.std.specs.Prelude.{◌≡◌};
+ghost use Rattle.admission.specs.declared.plan.Step.TheVariants.{Compute};
+ghost use Rattle.admission.specs.Lengths.{ticks_in, attempt_in};
+ghost use Rattle.admission.specs.Tables.{goes_by_rank, step_of};
+ghost use Rattle.admission.specs.Verdicts.{HasNumber};
+
+use crate::length::attempt_ticks;
+use crate::refusal::Refusal;
+use crate::task::Segment;
+use arrayvec::ArrayVec;
 
 // How the jobs of a table are ordered.
-#[derive(Clone, Copy, PartialEq, Eq)]
+#[derive(Clone, Copy, Debug, PartialEq, Eq)]
 pub enum Rule {
     RateMonotonic,
     DeadlineMonotonic,
     EarliestDeadlineFirst,
 }
 
+impl Rule {
+    // Whether the jobs are ordered by rank.
+    pub fn is_by_rank(self) -> bool
+        ensures { result ≡ goes_by_rank self }
+    {
+        match self {
+            Rule::RateMonotonic | Rule::DeadlineMonotonic => true,
+            Rule::EarliestDeadlineFirst => false,
+        }
+    }
+}
+
+// The rule that a number stands for.
+impl TryFrom<u32> for Rule {
+    type Error = Refusal;
+
+    ghost try_from_gives = { HasNumber };
+
+    fn try_from(number: u32) -> Result<Self, Refusal> {
+        match number {
+            1 => Ok(Rule::RateMonotonic),
+            2 => Ok(Rule::DeadlineMonotonic),
+            3 => Ok(Rule::EarliestDeadlineFirst),
+            _ => Err(Refusal::UnknownRule),
+        }
+    }
+}
+
 // The word that an access commits: the amount, or the reading plus the amount.
-#[derive(Clone, Copy, PartialEq, Eq)]
+#[derive(Clone, Copy, Debug, PartialEq, Eq)]
 pub enum Word {
     Put,
     Add,
@@ -17,7 +54,7 @@ pub enum Word {
 
 // A segment as the controller runs it: so many ticks of computing, or an access whose every
 // attempt takes so many ticks.
-#[derive(Clone, Copy)]
+#[derive(Clone, Copy, Debug, PartialEq, Eq)]
 pub enum Step {
     Compute {
         ticks: u32,
@@ -30,8 +67,59 @@ pub enum Step {
     },
 }
 
+impl Step {
+    // Its ticks, with one attempt to an access.
+    pub(crate) fn ticks(self) -> u32
+        ensures { result ≡ ticks_in self }
+    {
+        match self {
+            Step::Compute { ticks } | Step::Access { ticks, .. } => ticks,
+        }
+    }
+
+    // The ticks of an attempt, 0 for computing.
+    pub(crate) fn attempt(self) -> u32
+        ensures { result ≡ attempt_in self }
+    {
+        match self {
+            Step::Compute { .. } => 0,
+            Step::Access { ticks, .. } => ticks,
+        }
+    }
+}
+
+// Written by hand, since a derive takes a variant without fields.
+impl Default for Step {
+    ghost is_default = { λ step. step ≡ Compute 0 };
+
+    fn default() -> Step {
+        Step::Compute { ticks: 0 }
+    }
+}
+
+// The step that a segment describes. Only here does the number of a kind become a step.
+impl From<Segment> for Step {
+    ghost from_gives = { λ segment step. step ≡ step_of segment };
+
+    fn from(segment: Segment) -> Step {
+        let word = match segment.kind {
+            0 => return Step::Compute {
+                ticks: segment.size,
+            },
+            1 => Word::Put,
+            _ => Word::Add,
+        };
+        Step::Access {
+            word,
+            ticks: attempt_ticks(segment.size),
+            object: segment.object,
+            amount: segment.amount,
+        }
+    }
+}
+
 // What the tests count of a task.
-#[derive(Clone, Copy)]
+#[derive(Clone, Copy, Debug, Default, PartialEq, Eq)]
 pub struct AdoptedTask {
     pub period: u32,
     pub deadline: u32,
@@ -41,10 +129,5 @@ pub struct AdoptedTask {
     pub rank: u32,
 }
 
-// The segments of a task's jobs, in the front of `steps`.
-#[derive(Clone, Copy)]
-pub struct Plan {
-    pub count: usize,
-    pub steps: [Step; 8],
-    ghost few: { count ≤ 8 },
-}
+// The steps of a task's jobs.
+pub type Plan = ArrayVec<Step, 8>;

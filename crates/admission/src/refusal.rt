@@ -2,7 +2,7 @@ ghost use Rattle.std.specs.Prelude.{◌≡◌};
 ghost use Rattle.admission.specs.Refusals.{numbered};
 
 // Why a call is turned down: the first question that was answered "no".
-#[derive(Clone, Copy)]
+#[derive(Clone, Copy, Debug, PartialEq, Eq)]
 pub enum Refusal {
     // A batch is open.
     BatchOpen,
@@ -77,10 +77,10 @@ impl Refusal {
         ensures { result ≡ (numbered self.now).1 }
     {
         match self {
-            Refusal::PeriodOrDeadline { place } => *place,
-            Refusal::SegmentRange { place } => *place,
-            Refusal::KindOrSize { place } => *place,
-            Refusal::AccessObject { place } => *place,
+            Refusal::PeriodOrDeadline { place }
+            | Refusal::SegmentRange { place }
+            | Refusal::KindOrSize { place }
+            | Refusal::AccessObject { place } => *place,
             Refusal::Unschedulable { at } => *at,
             _ => 0,
         }

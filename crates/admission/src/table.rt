@@ -1,32 +1,43 @@
-ghost use Rattle.std.specs.Prelude.{◌≡◌, ◌≤◌, true, false, take};
+ghost use Rattle.std.specs.Prelude.{◌≡◌, ◌≤◌, true, false, length, take};
 ghost use Rattle.admission.specs.Limits.{EachTask, PeriodFits, DeadlineFits, CostFits};
 ghost use Rattle.admission.specs.Tables.{goes_by_rank};
 ghost use Rattle.admission.specs.Tests.{MeetsByRank, MeetsByDeadline, RanksBelow, PlacesEntered, EntriesBelow, EntriesRanked};
 
 use crate::plan::{AdoptedTask, Plan, Rule};
+use arrayvec::ArrayVec;
 
 // A table that was taken. It meets its inequality at every moment: by rank each task has a witness,
-// by deadline there is enough within every time. The tasks stand in the front of each array.
+// by deadline there is enough within every time. Each list has an entry for each task; they are
+// lists of their own, since callers read `tasks` and `order` as slices.
 #[derive(Drop)]
 pub struct AdoptedTable {
     pub(crate) rule: Rule,
-    pub(crate) count: usize,
     // The longest attempt of any task.
     pub(crate) attempt: u32,
-    pub(crate) tasks: [AdoptedTask; 32],
-    pub(crate) witnesses: [u32; 32],
-    pub(crate) plans: [Plan; 32],
+    pub(crate) tasks: ArrayVec<AdoptedTask, 32>,
+    pub(crate) witnesses: ArrayVec<u32, 32>,
+    pub(crate) plans: ArrayVec<Plan, 32>,
     // By rank: the places, the most urgent first.
-    pub(crate) order: [usize; 32],
-    ghost few: { count ≤ 32 },
-    ghost periods: { EachTask PeriodFits (take count tasks) },
-    ghost deadlines: { EachTask DeadlineFits (take count tasks) },
-    ghost costs: { EachTask CostFits (take count tasks) },
+    pub(crate) order: ArrayVec<usize, 32>,
+    ghost witnessed: { length witnesses.items ≡ length tasks.items },
+    ghost ordered: { length order.items ≡ length tasks.items },
+    ghost periods: { EachTask PeriodFits tasks.items },
+    ghost deadlines: { EachTask DeadlineFits tasks.items },
+    ghost costs: { EachTask CostFits tasks.items },
     ghost short: { attempt ≤ 65 },
-    ghost ranked: { (goes_by_rank rule ≡ true → MeetsByRank attempt (take count tasks) (take count witnesses)) },
-    ghost below: { (goes_by_rank rule ≡ true → RanksBelow (take count tasks)) },
-    ghost places: { (goes_by_rank rule ≡ true → PlacesEntered (take count tasks) (take count order)) },
-    ghost entries: { (goes_by_rank rule ≡ true → EntriesBelow (take count tasks) (take count order)) },
-    ghost entered: { (goes_by_rank rule ≡ true → EntriesRanked (take count tasks) (take count order)) },
-    ghost due: { (goes_by_rank rule ≡ false → MeetsByDeadline attempt (take count tasks)) },
+    ghost ranked: { (goes_by_rank rule ≡ true → MeetsByRank attempt tasks.items witnesses.items) },
+    ghost below: { (goes_by_rank rule ≡ true → RanksBelow tasks.items) },
+    ghost places: { (goes_by_rank rule ≡ true → PlacesEntered tasks.items order.items) },
+    ghost entries: { (goes_by_rank rule ≡ true → EntriesBelow tasks.items order.items) },
+    ghost entered: { (goes_by_rank rule ≡ true → EntriesRanked tasks.items order.items) },
+    ghost due: { (goes_by_rank rule ≡ false → MeetsByDeadline attempt tasks.items) },
+}
+
+// The front of an array.
+pub(crate) fn front<T: Default + Drop>(array: [T; 32], count: usize) -> ArrayVec<T, 32>
+    ensures { result.items ≡ take count array }
+{
+    let mut list = ArrayVec::from(array);
+    list.truncate(count);
+    list
 }

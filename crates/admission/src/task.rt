@@ -1,7 +1,7 @@
 // A task as the caller describes it. Rank and witness are written when its table is taken.
 // Both records are laid out as in C, so that a slice of them can be handed in from other languages.
 #[repr(C)]
-#[derive(Clone, Copy)]
+#[derive(Clone, Copy, Debug, PartialEq, Eq)]
 pub struct Task {
     // The least number of ticks between two releases.
     pub period: u32,
@@ -20,7 +20,7 @@ pub struct Task {
 // ignores object and amount. Kinds 1 and 2 access an object and copy `size` words in each attempt:
 // kind 1 puts the amount as the word, kind 2 adds the amount to the reading, held at 4294967295.
 #[repr(C)]
-#[derive(Clone, Copy)]
+#[derive(Clone, Copy, Debug, PartialEq, Eq)]
 pub struct Segment {
     pub kind: u32,
     pub size: u32,

@@ -1,57 +1,54 @@
-ghost use Rattle.std.specs.Prelude.{◌≡◌, ℕ, ◌+◌, ◌<◌, ◌≤◌, length, IfSome, Some, None, MatchOption, ◌≢◌, slice_index, slice_index_or};
-ghost use Rattle.admission.specs.Demand.{demand_by_rank};
-ghost use Rattle.admission.specs.Limits.{AdoptedLimits};
+ghost use Rattle.std.specs.Prelude.{◌≡◌, ℕ, ◌+◌, ◌<◌, ◌≤◌, length, IfOk, Some, None, MatchOption, MatchResult, ◌≢◌, slice_index, slice_index_or};
 ghost use Rattle.admission.specs.Tables.{no_adopted_task};
 ghost use Rattle.admission.specs.Tests.{least_witness, lowest_unmet, Ranked};
+ghost use Rattle.admission.specs.Verdicts.{ranks_no};
 
-use crate::demand::demand_within;
 use crate::plan::{AdoptedTask, Rule};
+use crate::refusal::Refusal;
+use crate::span::Span;
+use crate::table::front;
+use crate::task_set::TaskSet;
+use arrayvec::ArrayVec;
 
 // The place of the task that has a rank.
 fn place_ranked(tasks: &[AdoptedTask], rank: u32) -> Option<usize>
     ensures { MatchOption result ((k : ℕ) → k < length tasks.now → (slice_index_or tasks.now k no_adopted_task).rank ≢ rank) (λ place. (place < length tasks.now) × ((slice_index_or tasks.now place no_adopted_task).rank ≡ rank)) }
 {
-    for place in 0..tasks.len() {
-        if tasks[place].rank == rank {
-            return Some(place);
-        }
-    }
-    None
+    tasks.iter().position(|task| task.rank == rank)
 }
 
-// Writes the least witness of each task at its place. The answer is the place of the lowest rank
-// whose task has none; there the search ends.
-pub(crate) fn find_witnesses(
-    tasks: &[AdoptedTask],
-    attempt: u32,
-    witnesses: &mut [u32; 32],
-) -> Option<usize>
-    requires { (length tasks.now ≤ 32) × ((AdoptedLimits tasks.now) × ((Ranked tasks.now) × (attempt ≤ 65))) }
-    ensures unmet { result ≡ lowest_unmet attempt tasks.now }
-    ensures inside { IfSome result (λ place. place < length tasks.now) }
-    ensures least { result ≡ None → (place : ℕ) → place < length tasks.now → least_witness attempt tasks.now place ≡ Some (slice_index witnesses.new place) }
-{
-    let mut rank: u32 = 0;
-    'tasks: loop {
-        if rank as usize >= tasks.len() {
-            break 'tasks None;
-        }
-        if let Some(place) = place_ranked(tasks, rank) {
-            let deadline = tasks[place].deadline;
-            let mut t: u32 = 1;
-            witnesses[place] = 'times: loop {
-                let (work, charge) = demand_within(Rule::RateMonotonic, tasks, attempt, rank, t);
-                let needed = work + charge;
-                if needed <= t as u64 {
-                    break 'times t;
+impl TaskSet<'_> {
+    // The least witness of each task, by its place. The tasks are asked in the order of their ranks,
+    // and the first that has none is refused.
+    pub(crate) fn find_witnesses(&self) -> Result<ArrayVec<u32, 32>, Refusal>
+        requires { Ranked self.now.tasks.now }
+        ensures unmet { MatchResult result (λ _. lowest_unmet self.now.attempt self.now.tasks.now ≡ None) (λ refusal. ranks_no self.now.attempt self.now.tasks.now ≡ Some refusal) }
+        ensures long { IfOk result (λ witnesses. length witnesses.items ≡ length self.now.tasks.now) }
+        ensures least { IfOk result (λ witnesses. (place : ℕ) → place < length self.now.tasks.now → least_witness self.now.attempt self.now.tasks.now place ≡ Some (slice_index witnesses.items place)) }
+    {
+        let mut witnesses = [0; 32];
+        'tasks: {
+            for rank in 0..self.tasks.len() as u32 {
+                if let Some(place) = place_ranked(self.tasks, rank) {
+                    let deadline = self.tasks[place].deadline;
+                    let mut t: u32 = 1;
+                    witnesses[place] = 'times: loop {
+                        let span = Span { ticks: t };
+                        let (work, charge) = self.demand_within(Rule::RateMonotonic, rank, span);
+                        let needed = work + charge;
+                        if needed <= t as u64 {
+                            break 'times t;
+                        }
+                        if needed > deadline as u64 {
+                            break 'tasks Err(Refusal::Unschedulable { at: place as u32 });
+                        }
+                        // The demand never falls as time passes, so no time before `needed` is
+                        // enough.
+                        t = needed as u32;
+                    };
                 }
-                if needed > deadline as u64 {
-                    break 'tasks Some(place);
-                }
-                // The demand never falls as time passes, so no time before `needed` is enough.
-                t = needed as u32;
-            };
+            }
+            Ok(front(witnesses, self.tasks.len()))
         }
-        rank += 1;
     }
 }

@@ -5,7 +5,7 @@ use Rattle.admission.proofs.demand.share_by_deadline.Goals as goal
 pub returns : goal.returns
 returns c =
     let task = c.args.task.now in
-    let reach = c.args.t + task.period - task.deadline in
+    let reach = c.args.span.ticks + task.period - task.deadline in
     let jobs = c.periods_in-jobs.ensures.whole in
     let before = c.periods_in-jobs.ensures.less in
     record {

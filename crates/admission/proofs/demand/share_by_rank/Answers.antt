@@ -11,7 +11,7 @@ returns-then-task-rank-2 c =
       work = rw (le-leb task.rank c.args.rank (omega arith)) (ap (λ (n : ℕ). n * task.cost) jobs);
       charge = rw (le-ltb task.rank c.args.rank (omega arith));
       small = (
-        subst (λ (n : ℕ). n * task.cost ≤ 1600000000000) (sym jobs) (jobs_small (c.args.t + (task.period - 1)) task.period task.cost 800000 (omega arith) (omega arith)),
+        subst (λ (n : ℕ). n * task.cost ≤ 1600000000000) (sym jobs) (jobs_small (c.args.span.ticks + (task.period - 1)) task.period task.cost 800000 (omega arith) (omega arith)),
         omega arith,
       );
     }
@@ -19,7 +19,7 @@ returns-then-task-rank-2 c =
 pub returns : goal.returns
 returns c =
     let task = c.args.task.now in
-    let t = c.args.t in
+    let t = c.args.span.ticks in
     let jobs = c.periods_in-jobs.ensures.whole in
     let sooner : t + (task.period - 1) - 1 ≡ t - 1 + (task.period - 1) = omega arith in
     let before = c.periods_in-jobs.ensures.less ∙ ap (λ (n : ℕ). n / task.period) sooner in

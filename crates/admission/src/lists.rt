@@ -1,0 +1,36 @@
+ghost use Rattle.std.specs.Prelude.{◌≡◌, ℕ, ◌≤◌, length};
+ghost use Rattle.admission.specs.Lengths.{owned};
+ghost use Rattle.admission.specs.Limits.{EachSegment, TaskLimits, TableLimits};
+
+use crate::task::{Segment, Task};
+
+// The segments of one task, within the limits.
+#[derive(Clone, Copy)]
+pub(crate) struct Owned<'a> {
+    pub(crate) segments: &'a [Segment],
+    ghost few: { length segments.now ≤ 8 },
+    ghost limits: { EachSegment segments.now },
+}
+
+// The caller's lists, within the limits.
+#[derive(Clone, Copy)]
+pub(crate) struct Lists<'a> {
+    pub(crate) tasks: &'a [Task],
+    pub(crate) segments: &'a [Segment],
+    ghost few: { length tasks.now ≤ 32 },
+    ghost limits: { TableLimits segments.now tasks.now },
+}
+
+impl<'a> Lists<'a> {
+    // The segments of a task of the list.
+    pub(crate) fn owned(&self, task: &Task) -> Owned<'a>
+        requires { TaskLimits self.now.segments.now task.now }
+        ensures { result.segments.now ≡ owned self.now.segments.now task.now }
+    {
+        let first = task.first as usize;
+        let end = first + task.count as usize;
+        Owned {
+            segments: &self.segments[first..end],
+        }
+    }
+}
