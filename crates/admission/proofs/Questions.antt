@@ -18,18 +18,6 @@ pub unless_ok : {X : Type 0} (o : Option Refusal) (x y : X) → unless o x ≡ O
 unless_ok None x y h = refl
 unless_ok (Some d) x y h = absurd (let z : ◌≡◌ {A = ℕ} 0 1 = cc in omega arith)
 
-module _ (rules : Rules) (place : ℕ) (xs : List Segment) (k : ℕ) (inside : k < length xs) where
-  pub segments_size : has_fit_size (get_or xs k no_segment) ≡ false → segments_no rules place (drop k xs) ≡ Some (KindOrSize place)
-  segments_size e = at_drop_more (segments_no rules place) xs k no_segment inside ∙ rw e
-
-  pub segments_object : has_fit_size (get_or xs k no_segment) ≡ true → has_object rules (get_or xs k no_segment) ≡ false →
-      segments_no rules place (drop k xs) ≡ Some (AccessObject place)
-  segments_object e f = at_drop_more (segments_no rules place) xs k no_segment inside ∙ rw (e, f)
-
-  pub segments_next : has_fit_size (get_or xs k no_segment) ≡ true → has_object rules (get_or xs k no_segment) ≡ true →
-      segments_no rules place (drop k xs) ≡ segments_no rules place (drop (k + 1) xs)
-  segments_next e f = at_drop_more (segments_no rules place) xs k no_segment inside ∙ rw (e, f)
-
 module _ (rules : Rules) (segments : List Segment) (place : ℕ) (tasks : List Task) (k : ℕ) (inside : k < length tasks) where
   pub tasks_refused : (e : Refusal) → task_no rules segments place (get_or tasks k no_task) ≡ Some e → tasks_no rules segments place (drop k tasks) ≡ Some e
   tasks_refused e h =
