@@ -1,7 +1,5 @@
 -- From the answers of the questions to the verdict, and to the inequality that a table that is taken meets.
-use Rattle.std.proofs.Common.{◌≡◌, ℕ, ◌<◌, ◌≤◌, ◌≢◌, Bool, true, false, ◌&&◌, eqb, leb, List, map, length, get_or, is_some, Some, None, Ok, Err, Option, Result, sym, ap, ◌∙◌, subst, inl, inr, arith}
-use native.Mathlib.Nat.{sub-zero}
-use Rattle.std.proofs.lemmas.List.{get_or-take}
+use Rattle.std.proofs.Common.{◌≡◌, ℕ, ◌≤◌, ◌≢◌, Bool, true, false, ◌&&◌, eqb, leb, List, map, length, is_some, Some, None, Ok, Err, Option, sym, ap, ◌∙◌, subst, inl, inr, arith}
 use Rattle.std.proofs.lemmas.Bool.{cases_Bool, eqb-false, le-leb, and_from, cond-true, cond-false}
 use Rattle.shelf.specs.Models.{Rules}
 use Rattle.admission.specs.declared.task.Segment.{Segment}
@@ -16,14 +14,13 @@ use Rattle.admission.specs.declared.refusal.Refusal.TheVariants.{TaskCount, Long
 use Rattle.admission.specs.Lengths.{longest_attempt_of}
 use Rattle.admission.specs.declared.test.Passed.{Passed}
 use Rattle.admission.specs.Passing.{Passes}
-use Rattle.admission.specs.Tables.{Table, goes_by_rank, adopted_tasks_of, plans_of_tasks, steps_in, no_task, no_adopted_task}
-use Rattle.admission.specs.Limits.{TableLimits, AdoptedLimits, AllLawful}
+use Rattle.admission.specs.Tables.{Table, goes_by_rank, adopted_tasks_of, plans_of_tasks, steps_in}
+use Rattle.admission.specs.Limits.{AdoptedLimits, AllLawful}
 use Rattle.admission.specs.Tests.{Ranked, MeetsByRank, MeetsByDeadline, hyperperiod_of}
-use Rattle.admission.specs.Verdicts.{first_no, unless, rule_of_number, tasks_no, ranks_no, deadlines_no, hyperperiod_no, test_no, witnesses_of, table_of, verdict_under, verdict, stamp_of, stamped_by}
-use Rattle.admission.proofs.Questions.{unless_ok}
+use Rattle.admission.specs.Verdicts.{first_no, unless, rule_of_number, tasks_no, ranks_no, deadlines_no, hyperperiod_no, test_no, witnesses_of, table_of, verdict_under, verdict}
 use Rattle.admission.proofs.Firsts.{none≢some, none_from}
 use Rattle.admission.proofs.Rankings.{adopted_length, ranked}
-use Rattle.admission.proofs.Limited.{table_limits, adopted_limits}
+use Rattle.admission.proofs.Limited.{adopted_limits}
 use Rattle.admission.proofs.Exact.{rank_exact, deadline_exact}
 
 -- a table that passes the test by deadline has a hyperperiod

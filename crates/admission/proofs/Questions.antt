@@ -1,13 +1,12 @@
 -- The questions about the limits, as the loops that ask them meet them.
-use Rattle.std.proofs.Common.{◌≡◌, ℕ, ◌+◌, ◌<◌, true, false, List, length, get_or, drop, Some, None, Ok, Err, Option, refl, ap, ◌∙◌, arith}
+use Rattle.std.proofs.Common.{◌≡◌, ℕ, ◌+◌, ◌<◌, List, length, get_or, drop, Some, None, Ok, Err, Option, refl, ap, ◌∙◌, arith}
 use Rattle.std.proofs.lemmas.List.{at_drop_more}
 use Rattle.shelf.specs.Models.{Rules}
 use Rattle.admission.specs.declared.task.Segment.{Segment}
 use Rattle.admission.specs.declared.task.Task.{Task}
 use Rattle.admission.specs.declared.refusal.Refusal.{Refusal}
-use Rattle.admission.specs.declared.refusal.Refusal.TheVariants.{KindOrSize, AccessObject}
-use Rattle.admission.specs.Tables.{no_task, no_segment}
-use Rattle.admission.specs.Verdicts.{first_no, unless, has_fit_size, has_object, segments_no, task_no, tasks_no}
+use Rattle.admission.specs.Tables.{no_task}
+use Rattle.admission.specs.Verdicts.{first_no, unless, task_no, tasks_no}
 
 -- a refusal, or none, seen from the answer
 pub unless_err : {X : Type 0} (o : Option Refusal) (x : X) (e : Refusal) → unless o x ≡ Err e → o ≡ Some e

@@ -1,5 +1,5 @@
 -- A table of tasks as it is held once taken.
-use Rattle.std.specs.Prelude.{ℕ, Bool, true, false, cond, ◌&&◌, ◌||◌, List, [], map, length, get_or, take, ◌==◌, nat_lt, slice_index_or}
+use Rattle.std.specs.Prelude.{ℕ, Bool, true, false, cond, ◌&&◌, ◌||◌, List, [], map, length, get_or, ◌==◌, nat_lt, slice_index_or}
 use Rattle.std.specs.List.{range_with_len}
 use Rattle.admission.specs.declared.task.Segment.{Segment}
 use Rattle.admission.specs.declared.task.Task.{Task}

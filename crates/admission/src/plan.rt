@@ -103,7 +103,9 @@ impl From<Segment> for Step {
 
     fn from(segment: Segment) -> Step {
         let word = match segment.kind {
-            0 => return Step::Compute { ticks: segment.size },
+            0 => return Step::Compute {
+                ticks: segment.size,
+            },
             1 => Word::Put,
             _ => Word::Add,
         };

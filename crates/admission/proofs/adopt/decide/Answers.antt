@@ -1,8 +1,6 @@
-use Rattle.std.proofs.Common.{◌≡◌, ℕ, ◌≤◌, true, List, length, take, Ok, Err, None, sym, refl, ap, ◌∙◌, subst, arith}
-use Rattle.std.proofs.lemmas.Result.{err_from_is_err_and}
+use Rattle.std.proofs.Common.{◌≡◌, ℕ, true, List, length, take, Ok, sym, refl, ap, ◌∙◌, subst, arith}
 use Rattle.std.proofs.lemmas.List.FromFn.{length-map-range_with_len}
 use Rattle.admission.specs.declared.plan.AdoptedTask.{AdoptedTask}
-use Rattle.admission.specs.declared.refusal.Refusal.{Refusal}
 use Rattle.admission.specs.Lengths.{longest_attempt_of}
 use Rattle.admission.specs.Tables.{goes_by_rank, adopted_tasks_of, plans_of_tasks, Table}
 use Rattle.admission.specs.Tests.{MeetsByRank, Ordered}
