@@ -1,5 +1,5 @@
 -- From the answers of the questions to the verdict, and to the inequality that a table that is taken meets.
-use Rattle.std.proofs.Common.{◌≡◌, ℕ, ◌≤◌, ◌≢◌, Bool, true, false, ◌&&◌, eqb, leb, List, map, length, is_some, Some, None, Ok, Err, Option, Result, sym, ap, ◌∙◌, subst, inl, inr, arith}
+use Rattle.std.proofs.Common.{◌≡◌, ℕ, ◌≤◌, ◌≢◌, Bool, true, false, ◌&&◌, eqb, leb, List, map, length, is_some, Some, None, Ok, Err, Option, sym, ap, ◌∙◌, subst, inl, inr, arith}
 use Rattle.std.proofs.lemmas.Bool.{cases_Bool, eqb-false, le-leb, and_from, cond-true, cond-false}
 use Rattle.shelf.specs.Models.{Rules}
 use Rattle.admission.specs.declared.task.Segment.{Segment}
@@ -13,9 +13,9 @@ use Rattle.admission.specs.declared.refusal.Refusal.{Refusal}
 use Rattle.admission.specs.declared.refusal.Refusal.TheVariants.{TaskCount, LongHyperperiod}
 use Rattle.admission.specs.Lengths.{longest_attempt_of}
 use Rattle.admission.specs.declared.test.Passed.{Passed}
-use Rattle.admission.specs.Passing.{Tested}
+use Rattle.admission.specs.Passing.{Passes}
 use Rattle.admission.specs.Tables.{Table, goes_by_rank, adopted_tasks_of, plans_of_tasks, steps_in}
-use Rattle.admission.specs.Limits.{TableLimits, AdoptedLimits, AllLawful}
+use Rattle.admission.specs.Limits.{AdoptedLimits, AllLawful}
 use Rattle.admission.specs.Tests.{Ranked, MeetsByRank, MeetsByDeadline, hyperperiod_of}
 use Rattle.admission.specs.Verdicts.{first_no, unless, rule_of_number, tasks_no, ranks_no, deadlines_no, hyperperiod_no, test_no, witnesses_of, table_of, verdict_under, verdict}
 use Rattle.admission.proofs.Firsts.{none≢some, none_from}
@@ -60,19 +60,15 @@ module _ (rules : Rules) (number : ℕ) (tasks : List Task) (segments : List Seg
       ∙ ap (verdict_under rules tasks segments) known
       ∙ ap (λ (o : Option Refusal). unless (first_no o (test_no rule attempt adopted)) (table_of rule tasks segments)) fit
 
-  pub verdict_refused : (e : Refusal) → test_no rule attempt adopted ≡ Some e → verdict rules number tasks segments ≡ Err e
-  verdict_refused e h = to_test ∙ ap (λ (o : Option Refusal). unless o (table_of rule tasks segments)) h
-
   pub verdict_taken : test_no rule attempt adopted ≡ None → verdict rules number tasks segments ≡ Ok (table_of rule tasks segments)
   verdict_taken h = to_test ∙ ap (λ (o : Option Refusal). unless o (table_of rule tasks segments)) h
 
-pub ready : (rule : Rule) (segments : List Segment) (tasks : List Task) → length tasks ≤ 32 → TableLimits segments tasks → Ready rule (adopted_tasks_of rule segments tasks)
-ready rule segments tasks few limits =
-    (omega (arith, adopted_length rule segments tasks), adopted_limits rule segments tasks limits, λ r. ranked rule segments tasks r)
-
--- the same of what is counted of lists within the limits
-pub ready_as : (rule : Rule) (lists : Lists) (xs : List AdoptedTask) → xs ≡ adopted_tasks_of rule lists.segments.now lists.tasks.now → Ready rule xs
-ready_as rule lists xs e = subst (λ (ys : List AdoptedTask). Ready rule ys) (sym e) (ready rule lists.segments.now lists.tasks.now lists.few lists.limits)
+pub ready : (rule : Rule) (lists : Lists) (xs : List AdoptedTask) → xs ≡ adopted_tasks_of rule lists.segments.now lists.tasks.now → Ready rule xs
+ready rule lists xs e =
+    let segments = lists.segments.now in
+    let tasks = lists.tasks.now in
+    subst (λ (ys : List AdoptedTask). Ready rule ys) (sym e)
+    (omega (arith, lists.few, adopted_length rule segments tasks), adopted_limits rule segments tasks lists.limits, λ r. ranked rule segments tasks r)
 
 -- what is computed of lists that were checked is computed of the caller's lists
 pub of_lists : {X : Type 0} (f : List Segment → List Task → X) (lists : Lists) (segments : List Segment) (tasks : List Task) (x : X)
@@ -84,8 +80,8 @@ pub some_tasks : (tasks : List Task) (b : Bool) → b ≡ eqb (length tasks) 0 �
 some_tasks tasks b e h = let n : length tasks ≢ 0 = eqb-false (length tasks) 0 (sym e ∙ h) in omega arith
 
 -- what was tested under other names for the same numbers
-pub tested_as : (rule : Rule) (s s' : ℕ) (xs ys : List AdoptedTask) (r : Result Passed Refusal) → s ≡ s' → xs ≡ ys → Tested rule s xs r → Tested rule s' ys r
-tested_as rule s s' xs ys r e f h = subst (λ (k : ℕ). Tested rule k ys r) e (subst (λ (zs : List AdoptedTask). Tested rule s zs r) f h)
+pub passes_as : (rule : Rule) (s s' : ℕ) (xs ys : List AdoptedTask) (p : Passed) → s ≡ s' → xs ≡ ys → Passes rule s xs p → Passes rule s' ys p
+passes_as rule s s' xs ys p e f h = subst (λ (k : ℕ). Passes rule k ys p) e (subst (λ (zs : List AdoptedTask). Passes rule s zs p) f h)
 
 -- the table that is made of the parts is the defined one
 pub table_is : (rule : Rule) (segments : List Segment) (tasks : List Task) (s : ℕ) (xs : List AdoptedTask) (ws : List ℕ) (plans : List (ArrayVec Step))

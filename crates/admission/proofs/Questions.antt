@@ -1,13 +1,12 @@
 -- The questions about the limits, as the loops that ask them meet them.
-use Rattle.std.proofs.Common.{◌≡◌, ℕ, ◌+◌, ◌<◌, true, false, List, length, get_or, drop, Some, None, Ok, Err, Option, refl, ap, ◌∙◌, arith}
+use Rattle.std.proofs.Common.{◌≡◌, ℕ, ◌+◌, ◌<◌, List, length, get_or, drop, Some, None, Ok, Err, Option, refl, ap, ◌∙◌, arith}
 use Rattle.std.proofs.lemmas.List.{at_drop_more}
 use Rattle.shelf.specs.Models.{Rules}
 use Rattle.admission.specs.declared.task.Segment.{Segment}
 use Rattle.admission.specs.declared.task.Task.{Task}
 use Rattle.admission.specs.declared.refusal.Refusal.{Refusal}
-use Rattle.admission.specs.declared.refusal.Refusal.TheVariants.{KindOrSize, AccessObject}
-use Rattle.admission.specs.Tables.{no_task, no_segment}
-use Rattle.admission.specs.Verdicts.{first_no, unless, has_fit_size, has_object, segments_no, task_no, tasks_no}
+use Rattle.admission.specs.Tables.{no_task}
+use Rattle.admission.specs.Verdicts.{first_no, unless, task_no, tasks_no}
 
 -- a refusal, or none, seen from the answer
 pub unless_err : {X : Type 0} (o : Option Refusal) (x : X) (e : Refusal) → unless o x ≡ Err e → o ≡ Some e
@@ -17,18 +16,6 @@ unless_err (Some d) x e h = cc
 pub unless_ok : {X : Type 0} (o : Option Refusal) (x y : X) → unless o x ≡ Ok y → o ≡ None
 unless_ok None x y h = refl
 unless_ok (Some d) x y h = absurd (let z : ◌≡◌ {A = ℕ} 0 1 = cc in omega arith)
-
-module _ (rules : Rules) (place : ℕ) (xs : List Segment) (k : ℕ) (inside : k < length xs) where
-  pub segments_size : has_fit_size (get_or xs k no_segment) ≡ false → segments_no rules place (drop k xs) ≡ Some (KindOrSize place)
-  segments_size e = at_drop_more (segments_no rules place) xs k no_segment inside ∙ rw e
-
-  pub segments_object : has_fit_size (get_or xs k no_segment) ≡ true → has_object rules (get_or xs k no_segment) ≡ false →
-      segments_no rules place (drop k xs) ≡ Some (AccessObject place)
-  segments_object e f = at_drop_more (segments_no rules place) xs k no_segment inside ∙ rw (e, f)
-
-  pub segments_next : has_fit_size (get_or xs k no_segment) ≡ true → has_object rules (get_or xs k no_segment) ≡ true →
-      segments_no rules place (drop k xs) ≡ segments_no rules place (drop (k + 1) xs)
-  segments_next e f = at_drop_more (segments_no rules place) xs k no_segment inside ∙ rw (e, f)
 
 module _ (rules : Rules) (segments : List Segment) (place : ℕ) (tasks : List Task) (k : ℕ) (inside : k < length tasks) where
   pub tasks_refused : (e : Refusal) → task_no rules segments place (get_or tasks k no_task) ≡ Some e → tasks_no rules segments place (drop k tasks) ≡ Some e

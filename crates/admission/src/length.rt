@@ -5,6 +5,7 @@ use crate::lists::{Lists, Owned};
 use crate::plan::Step;
 
 // The ticks of one attempt that copies `size` words.
+#[tactic(auto, unfolding(crate::specs::Lengths::attempt_ticks_of))]
 pub fn attempt_ticks(size: u32) -> u32
     ensures { result ≡ attempt_ticks_of size }
 {

@@ -2,6 +2,7 @@ ghost use Rattle.std.specs.Prelude.{◌≡◌, ℕ, ◌+◌, ◌≤◌, Bool, le
 ghost use Rattle.admission.specs.Verdicts.{has_fit_times, has_fit_range, has_fit_size, has_object, segments_no, task_no, tasks_no, unless};
 
 use crate::lists::Lists;
+use crate::plan::Step;
 use crate::refusal::Refusal;
 use crate::task::{Segment, Task};
 use shelf::interface::Shelf;
@@ -44,7 +45,10 @@ fn size_fits(segment: &Segment) -> bool
 fn object_exists<S: Shelf>(shelf: &S, segment: &Segment) -> bool
     ensures { result ≡ has_object (S.Shelf.model shelf.now).rules segment.now }
 {
-    segment.kind == 0 || shelf.has(segment.object)
+    match Step::from(*segment) {
+        Step::Compute { .. } => true,
+        Step::Access { object, .. } => shelf.has(object),
+    }
 }
 
 // Whether the segments of the task at a place are within the limits.
@@ -77,9 +81,7 @@ fn check_task<S: Shelf>(
     if !range_fits(segments, task) {
         return Err(Refusal::SegmentRange { place });
     }
-    let first = task.first as usize;
-    let end = first + task.count as usize;
-    check_segments(shelf, place, &segments[first..end])
+    check_segments(shelf, place, task.owned(segments))
 }
 
 // The lists, if all tasks are within the limits.

@@ -27,10 +27,8 @@ impl<'a> Lists<'a> {
         requires { TaskLimits self.now.segments.now task.now }
         ensures { result.segments.now ≡ owned self.now.segments.now task.now }
     {
-        let first = task.first as usize;
-        let end = first + task.count as usize;
         Owned {
-            segments: &self.segments[first..end],
+            segments: task.owned(self.segments),
         }
     }
 }

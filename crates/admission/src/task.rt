@@ -1,3 +1,6 @@
+ghost use Rattle.std.specs.Prelude.{◌≡◌, ◌+◌, ◌≤◌, length};
+ghost use Rattle.admission.specs.Lengths.{owned};
+
 // A task as the caller describes it. Rank and witness are written when its table is taken.
 // Both records are laid out as in C, so that a slice of them can be handed in from other languages.
 #[repr(C)]
@@ -14,6 +17,18 @@ pub struct Task {
     pub rank: u32,
     // The least time that shows that the deadline is kept.
     pub witness: u32,
+}
+
+impl Task {
+    // The segments that it owns.
+    pub(crate) fn owned<'a>(&self, segments: &'a [Segment]) -> &'a [Segment]
+        requires { self.now.first + self.now.count ≤ length segments.now }
+        ensures { result.now ≡ owned segments.now self.now }
+    {
+        let first = self.first as usize;
+        let end = first + self.count as usize;
+        &segments[first..end]
+    }
 }
 
 // A segment of a task's jobs as the caller describes it. Kind 0 computes for `size` ticks and

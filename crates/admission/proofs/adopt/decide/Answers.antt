@@ -1,28 +1,25 @@
-use Rattle.std.proofs.Common.{◌≡◌, ℕ, true, List, length, Ok, Err, sym, refl, ap, ◌∙◌, subst, arith}
-use Rattle.std.proofs.lemmas.Result.{err_from_is_err_and}
+use Rattle.std.proofs.Common.{◌≡◌, ℕ, true, List, length, Ok, sym, refl, ap, ◌∙◌, subst, arith}
 use Rattle.std.proofs.lemmas.List.FromFn.{length-map-range_with_len}
 use Rattle.admission.specs.declared.plan.AdoptedTask.{AdoptedTask}
-use Rattle.admission.specs.declared.refusal.Refusal.{Refusal}
 use Rattle.admission.specs.Lengths.{longest_attempt_of}
-use Rattle.admission.specs.Passing.{Passes}
 use Rattle.admission.specs.Tables.{goes_by_rank, adopted_tasks_of, plans_of_tasks, Table}
 use Rattle.admission.specs.Tests.{MeetsByRank, Ordered}
 use Rattle.admission.specs.Verdicts.{answer_of, witnesses_of}
 use Rattle.admission.proofs.Rankings.{adopted_length}
 use Rattle.admission.proofs.Limited.{all_lawful}
-use Rattle.admission.proofs.Deciding.{ready_as, tested_as, of_lists, some_tasks, table_is, verdict_refused, verdict_taken, meets_by_rank, meets_by_deadline}
+use Rattle.admission.proofs.Deciding.{ready, passes_as, of_lists, some_tasks, table_is, verdict_taken, meets_by_rank, meets_by_deadline}
 use Rattle.admission.proofs.adopt.decide.Goals as goal
 
 pub invariant_of-set : goal.invariant_of-set
 invariant_of-set g c =
-    let r = ready_as c.in_ok-rule.rule c.in_ok-lists.lists c.deref.result.now (c.deref.ensures.0 ∙ c.adopted_tasks-adopted.ensures) in
+    let r = ready c.in_ok-rule.rule c.in_ok-lists.lists c.deref.result.now (c.deref.ensures.0 ∙ c.adopted_tasks-adopted.ensures) in
     record { few = r.0; limits = r.1; short = c.longest_attempt-attempt.ensures.short }
 
 pub test-requires : goal.test-requires
-test-requires g c = let r = ready_as c.in_ok-rule.rule c.in_ok-lists.lists c.deref.result.now (c.deref.ensures.0 ∙ c.adopted_tasks-adopted.ensures) in r.2
+test-requires g c = let r = ready c.in_ok-rule.rule c.in_ok-lists.lists c.deref.result.now (c.deref.ensures.0 ∙ c.adopted_tasks-adopted.ensures) in r.2
 
 pub order-order-requires : goal.order-order-requires
-order-order-requires g c = let r = ready_as c.in_ok-rule.rule c.in_ok-lists.lists c.deref.result.now (c.deref.ensures.0 ∙ c.adopted_tasks-adopted.ensures) in r.2
+order-order-requires g c = let r = ready c.in_ok-rule.rule c.in_ok-lists.lists c.deref.result.now (c.deref.ensures.0 ∙ c.adopted_tasks-adopted.ensures) in r.2
 
 pub invariant_of-table : goal.invariant_of-table
 invariant_of-table g c =
@@ -31,8 +28,8 @@ invariant_of-table g c =
     let X = c.adopted_tasks-adopted.result.items in
     let W = c.in_ok-passed.passed.witnesses.items in
     let O = c.order-order.result.items in
-    let r = ready_as rule c.in_ok-lists.lists X c.adopted_tasks-adopted.ensures in
-    let p : Passes rule s X c.in_ok-passed.passed = tested_as rule s s _ X (Ok c.in_ok-passed.passed) refl c.deref.ensures.0 c.in_ok-passed.ensures in
+    let r = ready rule c.in_ok-lists.lists X c.adopted_tasks-adopted.ensures in
+    let p = passes_as rule s s _ X c.in_ok-passed.passed refl c.deref.ensures.0 c.in_ok-passed.ensures in
     let w : W ≡ witnesses_of rule s X = p.witnesses in
     let o : goes_by_rank rule ≡ true → Ordered X O = λ b. subst (λ (xs : List AdoptedTask). Ordered xs O) c.deref.ensures.0 (c.order-order.ensures.ordered b) in
     record {
@@ -50,20 +47,6 @@ invariant_of-table g c =
       due = λ b. meets_by_deadline rule s X (all_lawful X r.1) p.test b;
     }
 
-pub returns-in_err-passed : goal.returns-in_err-passed
-returns-in_err-passed g c =
-    let tasks = c.args.tasks.now in
-    let segments = c.args.segments.now in
-    let rule = c.in_ok-rule.rule in
-    let same = c.in_ok-lists.ensures.lists in
-    let a = of_lists (adopted_tasks_of rule) c.in_ok-lists.lists segments tasks _ same c.adopted_tasks-adopted.ensures in
-    let s = of_lists longest_attempt_of c.in_ok-lists.lists segments tasks _ same c.longest_attempt-attempt.ensures.is in
-    let p = err_from_is_err_and c.from_residual-in_err-passed.result c.from_residual-in_err-passed.ensures.1 in
-    let t = tested_as rule _ _ _ _ (Err c.in_err-passed.field-0.0) s (c.deref.ensures.0 ∙ a) c.in_err-passed.ensures in
-    let some = some_tasks tasks c.is_empty.result c.is_empty.ensures c.if-is_empty.false in
-    let v = verdict_refused (g.S.Shelf.model c.args.shelf.now).rules c.args.number tasks segments rule some (omega arith) c.in_ok-rule.ensures c.in_ok-lists.ensures.answer _ t in
-    rw p.1 (v ∙ ap (λ (d : Refusal). Err d) (sym p.2))
-
 pub returns : goal.returns
 returns g c =
     let tasks = c.args.tasks.now in
@@ -73,8 +56,7 @@ returns g c =
     let a = of_lists (adopted_tasks_of rule) c.in_ok-lists.lists segments tasks _ same c.adopted_tasks-adopted.ensures in
     let s = of_lists longest_attempt_of c.in_ok-lists.lists segments tasks _ same c.longest_attempt-attempt.ensures.is in
     let plans = of_lists plans_of_tasks c.in_ok-lists.lists segments tasks _ same c.plans.ensures in
-    let p : Passes rule (longest_attempt_of segments tasks) (adopted_tasks_of rule segments tasks) c.in_ok-passed.passed =
-    tested_as rule _ _ _ _ (Ok c.in_ok-passed.passed) s (c.deref.ensures.0 ∙ a) c.in_ok-passed.ensures in
+    let p = passes_as rule _ (longest_attempt_of segments tasks) _ (adopted_tasks_of rule segments tasks) c.in_ok-passed.passed s (c.deref.ensures.0 ∙ a) c.in_ok-passed.ensures in
     let long = ap (λ (xs : List AdoptedTask). length xs) a in
     let t = table_is rule segments tasks _ _ _ _ s a p.witnesses plans in
     let some = some_tasks tasks c.is_empty.result c.is_empty.ensures c.if-is_empty.false in
