@@ -5,7 +5,6 @@ ghost use Rattle.admission.specs.Tables.{goes_by_rank};
 ghost use Rattle.admission.specs.Tests.{Ordered};
 ghost use Rattle.controller.specs.Choices.{urgency_of, is_more_urgent, comes_before, chosen, pending_at, better_of};
 
-use crate::advance::is_pending;
 use crate::job::Job;
 use admission::plan::{AdoptedTask, Rule};
 use admission::rank::is_by_rank;
@@ -66,7 +65,7 @@ fn lowest_ranked(tasks: &[AdoptedTask], order: &[usize], jobs: &[Job; 32]) -> Op
 {
     for rank in 0..order.len() {
         let place = order[rank];
-        if is_pending(jobs[place].state) {
+        if jobs[place].state.is_pending() {
             return Some(place);
         }
     }
@@ -81,7 +80,7 @@ pub(crate) fn most_urgent(rule: Rule, tasks: &[AdoptedTask], jobs: &[Job; 32]) -
 {
     let mut best: Option<usize> = None;
     for place in 0..tasks.len() {
-        if is_pending(jobs[place].state) {
+        if jobs[place].state.is_pending() {
             best = better(rule, tasks, jobs, best, place);
         }
     }
@@ -95,7 +94,7 @@ pub(crate) fn count_pending(jobs: &[Job; 32], count: usize) -> u32
 {
     let mut pending: u32 = 0;
     for place in 0..count {
-        if is_pending(jobs[place].state) {
+        if jobs[place].state.is_pending() {
             pending += 1;
         }
     }
