@@ -3,7 +3,7 @@ ghost use Rattle.admission.specs.declared.plan.Rule.TheVariants.{RateMonotonic};
 ghost use Rattle.admission.specs.Search.{count_below};
 ghost use Rattle.admission.specs.Tables.{goes_by_rank};
 ghost use Rattle.admission.specs.Tests.{Ordered};
-ghost use Rattle.controller.specs.Choices.{urgency_of, is_more_urgent, comes_before, chosen, pending_at, better_of};
+ghost use Rattle.controller.specs.Choices.{urgency_of, chosen, pending_at};
 
 use crate::job::Job;
 use admission::plan::{AdoptedTask, Rule};
@@ -19,22 +19,6 @@ fn urgency(rule: Rule, task: &AdoptedTask, job: &Job) -> (u64, u64)
     }
     let released = job.released.unwrap_or(0) as u64;
     (released + task.deadline as u64, released)
-}
-
-fn more_urgent(a: (u64, u64), b: (u64, u64)) -> bool
-    ensures { result ≡ is_more_urgent a b }
-{
-    a.0 < b.0 || (a.0 == b.0 && a.1 < b.1)
-}
-
-// Whether the job of place `a` goes before that of place `b`.
-fn goes_before(rule: Rule, tasks: &[AdoptedTask], jobs: &[Job; 32], a: usize, b: usize) -> bool
-    requires { (length tasks.now ≤ 32) × ((a < length tasks.now) × (b < length tasks.now)) }
-    ensures { result ≡ comes_before rule tasks.now jobs.now a b }
-{
-    let first = urgency(rule, &tasks[a], &jobs[a]);
-    let second = urgency(rule, &tasks[b], &jobs[b]);
-    more_urgent(first, second)
 }
 
 // The place of the pending job that works next: the most urgent, and of equals the lowest place. By
@@ -63,13 +47,10 @@ fn lowest_ranked(tasks: &[AdoptedTask], order: &[usize], jobs: &[Job; 32]) -> Op
     ensures is { result ≡ chosen RateMonotonic tasks.now jobs.now }
     ensures inside { IfSome result (λ place. place < length tasks.now) }
 {
-    for rank in 0..order.len() {
-        let place = order[rank];
-        if jobs[place].state.is_pending() {
-            return Some(place);
-        }
-    }
-    None
+    order
+        .iter()
+        .copied()
+        .find(|place| jobs[*place].state.is_pending())
 }
 
 // Under any rule: the most urgent pending job, found by comparing all of them.
@@ -78,13 +59,18 @@ pub(crate) fn most_urgent(rule: Rule, tasks: &[AdoptedTask], jobs: &[Job; 32]) -
     ensures is { result ≡ chosen rule tasks.now jobs.now }
     ensures inside { IfSome result (λ place. place < length tasks.now) }
 {
-    let mut best: Option<usize> = None;
-    for place in 0..tasks.len() {
-        if jobs[place].state.is_pending() {
-            best = better(rule, tasks, jobs, best, place);
+    let mut best: Option<(usize, (u64, u64))> = None;
+    for (place, task) in tasks.iter().enumerate() {
+        let job = &jobs[place];
+        if !job.state.is_pending() {
+            continue;
+        }
+        let urgency = urgency(rule, task, job);
+        if best.is_none_or(|(_, least)| urgency < least) {
+            best = Some((place, urgency));
         }
     }
-    best
+    best.map(|(place, _)| place)
 }
 
 // How many jobs are pending.
@@ -92,34 +78,8 @@ pub(crate) fn count_pending(jobs: &[Job; 32], count: usize) -> u32
     requires { count ≤ 32 }
     ensures { result ≡ count_below count (pending_at jobs.now) }
 {
-    let mut pending: u32 = 0;
-    for place in 0..count {
-        if jobs[place].state.is_pending() {
-            pending += 1;
-        }
-    }
-    pending
-}
-
-// The more urgent of the best so far and the job of a place.
-fn better(
-    rule: Rule,
-    tasks: &[AdoptedTask],
-    jobs: &[Job; 32],
-    best: Option<usize>,
-    place: usize,
-) -> Option<usize>
-    requires { (length tasks.now ≤ 32) × ((place < length tasks.now) × (IfSome best (λ b. b < place))) }
-    ensures { result ≡ better_of (comes_before rule tasks.now jobs.now) best place }
-{
-    match best {
-        None => Some(place),
-        Some(other) => {
-            if goes_before(rule, tasks, jobs, place, other) {
-                Some(place)
-            } else {
-                Some(other)
-            }
-        }
-    }
+    jobs[..count]
+        .iter()
+        .filter(|job| job.state.is_pending())
+        .count() as u32
 }
