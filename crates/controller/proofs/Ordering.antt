@@ -14,7 +14,7 @@ use Rattle.controller.specs.Choices.{no_job, pending_at, release_of, is_more_urg
 use Rattle.controller.proofs.Choosing.{Best, Lower, lower_from, not_lower, best_chosen}
 
 -- rules that are both by rank, or both not, choose alike
-pub chosen_alike : (tasks : List AdoptedTask) (jobs : List Job) (a b : Rule) → goes_by_rank a ≡ goes_by_rank b → chosen a tasks jobs ≡ chosen b tasks jobs
+chosen_alike : (tasks : List AdoptedTask) (jobs : List Job) (a b : Rule) → goes_by_rank a ≡ goes_by_rank b → chosen a tasks jobs ≡ chosen b tasks jobs
 chosen_alike tasks jobs a b e =
     ap (λ (ranked : Bool).
     let urgency : ℕ → ℕ × ℕ = λ place.
@@ -77,13 +77,17 @@ module _ (tasks : List AdoptedTask) (order : List ℕ) (pending : ℕ → Bool) 
           | inr q ↦ q
         ]
 
--- the first pending job that the order of the places comes to is the one that is chosen
-pub first_ranked : (tasks : List AdoptedTask) (order : List ℕ) (jobs : List Job) → Ordered tasks order → length order ≡ length tasks → (r : Option ℕ) → MatchOption r (AllWithin (λ (x : ℕ). pending_at jobs x ≡ false) order 0 (length order)) (λ x. (pending_at jobs x ≡ true) × (i : ℕ) × (i < length order) × HoldsAt (λ (y : ℕ). y ≡ x) order i × AllWithin (λ (y : ℕ). pending_at jobs y ≡ false) order 0 i) → r ≡ chosen RateMonotonic tasks jobs
-first_ranked tasks order jobs O e None h =
-    best_chosen (pending_at jobs) (λ place. ((get_or tasks place no_adopted_task).rank, 0)) (length tasks) None
-    (best_none tasks order (pending_at jobs) O (length order) (λ r l. h r 0 (omega arith) l) (omega arith))
-first_ranked tasks order jobs O e (Some x) h =
-    let is : get_or order h.1 0 ≡ x = h.3 0 in
-    best_chosen (pending_at jobs) (λ place. ((get_or tasks place no_adopted_task).rank, 0)) (length tasks) (Some x)
-    (subst (λ (z : ℕ). Best (pending_at jobs) (λ place. ((get_or tasks place no_adopted_task).rank, 0)) (length tasks) (Some z)) is
-    (best_ranked tasks order (pending_at jobs) O h.1 (omega (arith, h.2)) (λ r l. h.4 r 0 (omega arith) l) (subst (λ (z : ℕ). pending_at jobs z ≡ true) (sym is) h.0)))
+-- by rank, the first pending job that the order of the places comes to is the one that is chosen
+pub first_ranked : (rule : Rule) (tasks : List AdoptedTask) (order : List ℕ) (jobs : List Job) → goes_by_rank rule ≡ true → Ordered tasks order → length order ≡ length tasks → (r : Option ℕ) → MatchOption r (AllWithin (λ (x : ℕ). pending_at jobs x ≡ false) order 0 (length order)) (λ x. (pending_at jobs x ≡ true) × (i : ℕ) × (i < length order) × HoldsAt (λ (y : ℕ). y ≡ x) order i × AllWithin (λ (y : ℕ). pending_at jobs y ≡ false) order 0 i) → r ≡ chosen rule tasks jobs
+first_ranked rule tasks order jobs ranked O e r h =
+    best_chosen (pending_at jobs) by_rank (length tasks) r (best r h) ∙ chosen_alike tasks jobs RateMonotonic rule (sym ranked)
+  where
+    by_rank : ℕ → ℕ × ℕ
+    by_rank place = ((get_or tasks place no_adopted_task).rank, 0)
+
+    best : (r : Option ℕ) → MatchOption r (AllWithin (λ (x : ℕ). pending_at jobs x ≡ false) order 0 (length order)) (λ x. (pending_at jobs x ≡ true) × (i : ℕ) × (i < length order) × HoldsAt (λ (y : ℕ). y ≡ x) order i × AllWithin (λ (y : ℕ). pending_at jobs y ≡ false) order 0 i) → Best (pending_at jobs) by_rank (length tasks) r
+    best None h = best_none tasks order (pending_at jobs) O (length order) (λ r l. h r 0 (omega arith) l) (omega arith)
+    best (Some x) h =
+        let is : get_or order h.1 0 ≡ x = h.3 0 in
+        subst (λ (z : ℕ). Best (pending_at jobs) by_rank (length tasks) (Some z)) is
+        (best_ranked tasks order (pending_at jobs) O h.1 (omega (arith, h.2)) (λ r l. h.4 r 0 (omega arith) l) (subst (λ (z : ℕ). pending_at jobs z ≡ true) (sym is) h.0))

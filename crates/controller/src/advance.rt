@@ -5,7 +5,7 @@ use crate::job::{Event, Job, JobState};
 use admission::plan::{Step, Word};
 use shelf::interface::Shelf;
 
-// What comes of an attempt on a tick.
+// What comes of an attempt on a tick. No Option<bool>: each outcome has its name in the match below.
 #[derive(Clone, Copy, Debug, PartialEq, Eq)]
 pub enum Outcome {
     UnderWay,
@@ -13,7 +13,8 @@ pub enum Outcome {
     Refused,
 }
 
-// The reading that an attempt goes by: its first tick looks, before anything else.
+// The reading that an attempt goes by: its first tick looks, before anything else. 0 for computing,
+// which reads nothing; an Option would be taken apart in the one arm that has it.
 fn reading_for<S: Shelf>(shelf: &S, state: JobState, step: Step) -> u32
     ensures { result ≡ goes_by (S.Shelf.model shelf.now) state step }
 {
@@ -38,7 +39,7 @@ fn word_of(word: Word, reading: u32, amount: u32) -> u32
     }
 }
 
-// The word that a step brings to its commit; computing brings none.
+// The word that a step brings to its commit; computing brings none, 0 as with the reading.
 fn word_for(step: Step, reading: u32) -> u32
     ensures { result ≡ brings step reading }
 {

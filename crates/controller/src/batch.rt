@@ -23,11 +23,10 @@ pub struct OpenBatch {
 }
 
 impl OpenBatch {
-    // Clock and sums at 0, no job pending.
+    // Clock and sums at 0, no job pending. No derived Default: a tally has facts to show.
     pub(crate) fn fresh() -> OpenBatch
         ensures { batch_in result ≡ fresh_batch }
     {
-        // Not a derived Default: a tally has facts to keep.
         OpenBatch {
             tally: Tally {
                 clock: 0,
@@ -68,14 +67,15 @@ impl OpenBatch {
         Ok(clock + task.deadline)
     }
 
-    // One tick: the clock rises, and the most urgent pending job works.
+    // One tick: the clock rises, and the most urgent pending job works. That the clock is below its
+    // end is no fact of every open batch: one that has run out can still be closed.
     pub(crate) fn tick<S: Shelf>(&mut self, shelf: &mut S, table: &AdoptedTable) -> Ticked
         requires { self.old.tally.clock < 1000000000 }
         ensures answer { result ≡ (tick_of (S.Shelf.model shelf.old) (held table.now) (batch_in self.old)).answer }
         ensures batch { batch_in self.new ≡ (tick_of (S.Shelf.model shelf.old) (held table.now) (batch_in self.old)).batch }
         ensures shelf { S.Shelf.model shelf.new ≡ (tick_of (S.Shelf.model shelf.old) (held table.now) (batch_in self.old)).model }
     {
-        match next_place(table.rule(), table.tasks(), table.order(), &self.jobs) {
+        match next_place(table, &self.jobs) {
             None => self.idle(),
             Some(place) => self.work(shelf, table, place),
         }
@@ -138,17 +138,16 @@ impl OpenBatch {
         }
     }
 
-    // What was counted, with the jobs that are still pending, of so many tasks.
+    // What was counted, and how many jobs of the table's tasks are still pending.
     pub(crate) fn sums(&self, table: &AdoptedTable) -> Sums
         ensures { result ≡ sums_of (held table.now) (batch_in self.now) }
     {
         let tally = self.tally;
-        let pending = count_pending(&self.jobs, table.tasks().len());
         Sums {
             ticks: tally.clock,
             releases: tally.releases,
             finished: tally.finished,
-            pending,
+            pending: count_pending(table, &self.jobs),
             retries: tally.retries,
             preemptions: tally.preemptions,
         }

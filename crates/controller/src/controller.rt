@@ -77,9 +77,7 @@ impl<S: Shelf> Controller<S> {
         ensures answer { result ≡ releasing (machine (S.Shelf.model self.old.shelf) self.old.core) place }
         ensures machine { machine (S.Shelf.model self.new.shelf) self.new.core ≡ released (machine (S.Shelf.model self.old.shelf) self.old.core) place }
     {
-        let Some(batch) = &mut self.core.batch else {
-            return Err(Refusal::NoBatch);
-        };
+        let batch = self.core.batch.as_mut().ok_or(Refusal::NoBatch)?;
         batch.release(&self.core.table, place as usize)
     }
 
@@ -88,9 +86,7 @@ impl<S: Shelf> Controller<S> {
         ensures answer { result ≡ ticking (machine (S.Shelf.model self.old.shelf) self.old.core) }
         ensures machine { machine (S.Shelf.model self.new.shelf) self.new.core ≡ ticked (machine (S.Shelf.model self.old.shelf) self.old.core) }
     {
-        let Some(batch) = &mut self.core.batch else {
-            return Err(Refusal::NoBatch);
-        };
+        let batch = self.core.batch.as_mut().ok_or(Refusal::NoBatch)?;
         if batch.tally.clock >= LAST_CLOCK {
             return Err(Refusal::ClockEnd);
         }

@@ -42,6 +42,7 @@ impl JobState {
         }
     }
 
+    // The ticks left of the present step; none at rest.
     pub(crate) fn ticks_left(self) -> u32
         ensures { result ≡ left_in self }
     {
@@ -52,6 +53,7 @@ impl JobState {
         }
     }
 
+    // The reading that an attempt goes by; 0 for the others, whose steps read nothing.
     pub(crate) fn reading_seen(self) -> u32
         ensures { result ≡ seen_in self }
     {
@@ -104,7 +106,7 @@ impl Event {
         matches!(self, Event::Retried { .. })
     }
 
-    // The numbers of an event are its line of a fixed answer format, where an absent field is 0.
+    // Three plain numbers: the answer format has all three for each event, 0 where there is none.
     pub fn number(&self) -> u32
         ensures { result ≡ event_number self.now }
     {
@@ -139,7 +141,8 @@ impl Event {
     }
 }
 
-// What tick answers: who worked (0 if nobody did), what it did, and whether the job finished.
+// What tick answers: who worked, what it did, and whether the job finished. The answer format has a
+// place for each tick, 0 if nobody worked.
 #[derive(Clone, Copy, Debug, PartialEq, Eq)]
 pub struct Ticked {
     pub place: u32,

@@ -1,13 +1,13 @@
-ghost use Rattle.std.specs.Prelude.{◌≡◌, ℕ, ◌+◌, ◌<◌, ◌≤◌, true, length, IfSome};
-ghost use Rattle.admission.specs.declared.plan.Rule.TheVariants.{RateMonotonic};
+ghost use Rattle.std.specs.Prelude.{◌≡◌, ◌<◌, true, length, IfSome};
+ghost use Rattle.admission.specs.Held.{held};
 ghost use Rattle.admission.specs.Search.{count_below};
 ghost use Rattle.admission.specs.Tables.{goes_by_rank};
-ghost use Rattle.admission.specs.Tests.{Ordered};
 ghost use Rattle.controller.specs.Choices.{urgency_of, chosen, pending_at};
 
 use crate::job::Job;
 use admission::plan::{AdoptedTask, Rule};
 use admission::rank::is_by_rank;
+use admission::table::AdoptedTable;
 
 // The urgency of a job: its rank, or its absolute deadline and then its release. The lower goes
 // first.
@@ -23,62 +23,52 @@ fn urgency(rule: Rule, task: &AdoptedTask, job: &Job) -> (u64, u64)
 
 // The place of the pending job that works next: the most urgent, and of equals the lowest place. By
 // rank, the order of the places finds it with no comparing.
-pub(crate) fn next_place(
-    rule: Rule,
-    tasks: &[AdoptedTask],
-    order: &[usize],
-    jobs: &[Job; 32],
-) -> Option<usize>
-    requires few { (length tasks.now ≤ 32) × (length order.now ≡ length tasks.now) }
-    requires ordered { goes_by_rank rule ≡ true → Ordered tasks.now order.now }
-    ensures is { result ≡ chosen rule tasks.now jobs.now }
-    ensures inside { IfSome result (λ place. place < length tasks.now) }
+pub(crate) fn next_place(table: &AdoptedTable, jobs: &[Job; 32]) -> Option<usize>
+    ensures is { result ≡ chosen (held table.now).rule (held table.now).tasks jobs.now }
+    ensures inside { IfSome result (λ place. place < 32) }
 {
-    if is_by_rank(rule) {
-        lowest_ranked(tasks, order, jobs)
+    if is_by_rank(table.rule()) {
+        lowest_ranked(table, jobs)
     } else {
-        most_urgent(rule, tasks, jobs)
+        most_urgent(table, jobs)
     }
 }
 
 // By rank: the pending job of lowest rank, the first that the order of the places comes to.
-fn lowest_ranked(tasks: &[AdoptedTask], order: &[usize], jobs: &[Job; 32]) -> Option<usize>
-    requires { (length tasks.now ≤ 32) × ((length order.now ≡ length tasks.now) × (Ordered tasks.now order.now)) }
-    ensures is { result ≡ chosen RateMonotonic tasks.now jobs.now }
-    ensures inside { IfSome result (λ place. place < length tasks.now) }
+fn lowest_ranked(table: &AdoptedTable, jobs: &[Job; 32]) -> Option<usize>
+    requires { goes_by_rank (held table.now).rule ≡ true }
+    ensures is { result ≡ chosen (held table.now).rule (held table.now).tasks jobs.now }
+    ensures inside { IfSome result (λ place. place < 32) }
 {
-    order
+    table
+        .order()
         .iter()
         .copied()
         .find(|place| jobs[*place].state.is_pending())
 }
 
-// Under any rule: the most urgent pending job, found by comparing all of them.
-pub(crate) fn most_urgent(rule: Rule, tasks: &[AdoptedTask], jobs: &[Job; 32]) -> Option<usize>
-    requires { length tasks.now ≤ 32 }
-    ensures is { result ≡ chosen rule tasks.now jobs.now }
-    ensures inside { IfSome result (λ place. place < length tasks.now) }
+// Under any rule: the most urgent pending job, found by comparing all of them. Of equals,
+// `min_by_key` gives the first.
+fn most_urgent(table: &AdoptedTable, jobs: &[Job; 32]) -> Option<usize>
+    ensures is { result ≡ chosen (held table.now).rule (held table.now).tasks jobs.now }
+    ensures inside { IfSome result (λ place. place < 32) }
 {
-    let mut best: Option<(usize, (u64, u64))> = None;
-    for (place, task) in tasks.iter().enumerate() {
-        let job = &jobs[place];
-        if !job.state.is_pending() {
-            continue;
-        }
-        let urgency = urgency(rule, task, job);
-        if best.is_none_or(|(_, least)| urgency < least) {
-            best = Some((place, urgency));
-        }
-    }
-    best.map(|(place, _)| place)
+    let rule = table.rule();
+    table
+        .tasks()
+        .iter()
+        .zip(jobs)
+        .enumerate()
+        .filter(|(_, (_, job))| job.state.is_pending())
+        .min_by_key(|(_, (task, job))| urgency(rule, task, job))
+        .map(|(place, _)| place)
 }
 
-// How many jobs are pending.
-pub(crate) fn count_pending(jobs: &[Job; 32], count: usize) -> u32
-    requires { count ≤ 32 }
-    ensures { result ≡ count_below count (pending_at jobs.now) }
+// How many jobs of the table's tasks are pending.
+pub(crate) fn count_pending(table: &AdoptedTable, jobs: &[Job; 32]) -> u32
+    ensures { result ≡ count_below (length (held table.now).tasks) (pending_at jobs.now) }
 {
-    jobs[..count]
+    jobs[..table.tasks().len()]
         .iter()
         .filter(|job| job.state.is_pending())
         .count() as u32

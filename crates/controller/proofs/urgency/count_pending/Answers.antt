@@ -1,8 +1,10 @@
-use Rattle.std.proofs.Common.{◌≡◌, ℕ, zero, suc, ◌≤◌, List, length, take, refl, sym, ◌∙◌, inl, inr, add-one, arith, rules}
+use Rattle.std.proofs.Common.{◌≡◌, ℕ, zero, suc, ◌≤◌, List, length, take, refl, sym, ◌∙◌, subst, inl, inr, add-one, arith, rules}
 use Rattle.std.proofs.iter.runs.Made.{chains}
 use Rattle.std.proofs.lemmas.Bool.{cases_Bool}
 use Rattle.std.proofs.lemmas.List.Sums.{count_by_more_yes, count_by_more_no}
 use Rattle.std.specs.List.{count_by}
+use Rattle.admission.specs.declared.plan.AdoptedTask.{AdoptedTask}
+use Rattle.admission.specs.Held.{held}
 use Rattle.admission.specs.Search.{count_below}
 use Rattle.admission.proofs.Ranges.{count_yes, count_no}
 use Rattle.controller.specs.declared.job.Job.{Job}
@@ -22,5 +24,7 @@ counted_below jobs (suc n) h =
 
 pub returns : goal.returns
 returns c =
-    let counted : c.count.result ≡ count_by (λ (j : Job). pending_in j.state) (take c.args.count c.args.jobs.now) = search (rules, chains) in
-    counted ∙ counted_below c.args.jobs.now c.args.count (omega arith)
+    let count = length (held c.args.table.now).tasks in
+    let counted : c.count.result ≡ count_by (λ (j : Job). pending_in j.state) (take count c.args.jobs.now) = search (rules, chains) in
+    let few : count ≤ 32 = subst (λ (tasks : List AdoptedTask). length tasks ≤ 32) c.tasks.ensures.are c.tasks.ensures.few in
+    counted ∙ counted_below c.args.jobs.now count (omega (arith, few))
