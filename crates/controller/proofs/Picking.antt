@@ -1,11 +1,10 @@
 -- What `min_by_key` picks, and that of the pending jobs by urgency it is the one that is chosen.
-use Rattle.std.proofs.Common.{◌≡◌, ℕ, ◌+◌, ◌<◌, ◌≤◌, Bool, true, false, List, [], ◌∷◌, map, length, get_or, Some, None, Option, sym, refl, ap, ◌∙◌, subst, inl, inr, add-one, arith, Bor}
-use Rattle.std.proofs.lemmas.Bool.{cases_Bool, cases_eq, cases_lt}
-use Rattle.std.proofs.lemmas.Cmp.{ranked}
+use Rattle.std.proofs.Common.{◌≡◌, ℕ, ◌+◌, ◌<◌, ◌≤◌, Bool, true, List, [], ◌∷◌, map, length, get_or, Some, None, Option, sym, refl, ap, ◌∙◌, subst, inl, inr, add-one, arith, Bor}
+use Rattle.std.proofs.lemmas.Bool.{cases_Bool}
 use Rattle.std.proofs.lemmas.Iterator.{YieldsList, items_from_drains}
 use Rattle.std.proofs.lemmas.Slice.Zip.{length-zip}
 use Rattle.std.specs.Fn.{CalledAt}
-use Rattle.std.specs.Iterator.{Drains, PicksMinByKey, KeyTurn}
+use Rattle.std.specs.Iterator.{PicksMinByKey, KeyTurn}
 use Rattle.std.specs.List.{FoldsTo, fold, reduce, filter, zip, enumerate_from}
 use Rattle.std.specs.Option.{option_map}
 use Rattle.std.specs.Ordering.{min_by_ordering, ordering_then, nat_cmp, is_gt}
@@ -142,8 +141,8 @@ module _ (rule : Rule) (tasks : List AdoptedTask) (jobs : List Job) where
     ap (pending_at jobs) (omega arith) ∙ p 0 (omega arith),
     ap urgency_at (omega arith) ∙ u 0 (omega arith),
     zipped (n + 1) ts js (omega arith)
-    (λ k h. ap (pending_at jobs) (omega arith) ∙ rw add-one at (p (k + 1) (omega arith)))
-    (λ k h. ap urgency_at (omega arith) ∙ rw add-one at (u (k + 1) (omega arith))),
+        (λ k h. ap (pending_at jobs) (omega arith) ∙ rw add-one at (p (k + 1) (omega arith)))
+        (λ k h. ap urgency_at (omega arith) ∙ rw add-one at (u (k + 1) (omega arith))),
   )
 
   -- the least urgent of the pending jobs is the one that is chosen

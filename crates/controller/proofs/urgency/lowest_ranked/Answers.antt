@@ -1,4 +1,4 @@
-use Rattle.std.proofs.Common.{◌≡◌, ℕ, ◌<◌, ◌≤◌, false, true, length, get_or, arith, rules, tests, sym, ◌∙◌}
+use Rattle.std.proofs.Common.{◌≡◌, ℕ, ◌<◌, ◌≤◌, false, true, length, get_or, arith, rules, tests}
 use Rattle.std.proofs.lemmas.Iterator.{YieldsList-from_slice, first_from_find}
 use Rattle.std.proofs.lemmas.Iterator.Adapters.{serves_from_places}
 use Rattle.std.proofs.lemmas.Iterator.Consumers.{YieldsList-from_copied}
@@ -15,9 +15,9 @@ find-requires-clause-callable c =
     let few : length tasks ≤ 32 = simp length-take (omega (arith, c.args.table.now.few)) in
     serves_from_places (YieldsList-from_copied (YieldsList-from_slice order cc)) (λ x q k. search (rules, tests))
     (λ x k l e.
-        let inside : get_or order k x < length tasks = rw (get_or_default order k x 0 l) ((c.order.ensures.ordered c.requires).entries k (omega (arith, c.order.ensures.long))) in
-        let low : x < 32 = omega (arith, e, inside, few) in
-        search (rules, low))
+    let inside : get_or order k x < length tasks = rw (get_or_default order k x 0 l) ((c.order.ensures.ordered c.requires).entries k (omega (arith, c.order.ensures.long))) in
+    let low : x < 32 = omega (arith, e, inside, few) in
+    search (rules, low))
 
 pub returns-clause-is : goal.returns-clause-is
 returns-clause-is c =
