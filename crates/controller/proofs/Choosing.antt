@@ -3,7 +3,7 @@ use Rattle.std.proofs.Common.{◌≡◌, ℕ, ◌+◌, ◌<◌, ◌≤◌, Bool,
 use Rattle.std.proofs.lemmas.Bool.{cases_Bool, cases_eq, both_ways, or_cases, or_parts, or_left, or_right, and_parts, and_from, and_cases, and_left, and_right, lt-ltb, ltb-true, ltb-false, eq-eqb, eqb-true, eqb-false, not_from_true, not_from_false}
 use Rattle.admission.specs.Search.{first_below, some_below}
 use Rattle.admission.proofs.Firsts.{first_none, first_some, some_true, some_false}
-use Rattle.controller.specs.Choices.{is_more_urgent, better_of}
+use Rattle.controller.specs.Choices.{is_more_urgent}
 
 -- one urgency is lower than another, or it is not
 abbrev pub Lower : ℕ × ℕ → ℕ × ℕ → Type 0
@@ -85,7 +85,7 @@ module _ (pending : ℕ → Bool) (urgency : ℕ → ℕ × ℕ) where
     h.3,
   )
 
-  replaced : (n b : ℕ) → Best n (Some b) → pending n ≡ true → before n b ≡ true → Best (n + 1) (Some n)
+  pub replaced : (n b : ℕ) → Best n (Some b) → pending n ≡ true → before n b ≡ true → Best (n + 1) (Some n)
   replaced n b h p e =
       let low = lower_yes (urgency n) (urgency b) e in (
         omega arith,
@@ -100,7 +100,7 @@ module _ (pending : ℕ → Bool) (urgency : ℕ → ℕ × ℕ) where
         (λ j l q. lower_from (urgency n) (urgency j) (lower_upper (urgency n) (urgency b) (urgency j) low (lower_no (urgency j) (urgency b) (h.2 j l q)))),
       )
 
-  stays : (n b : ℕ) → Best n (Some b) → before n b ≡ false → Best (n + 1) (Some b)
+  pub stays : (n b : ℕ) → Best n (Some b) → before n b ≡ false → Best (n + 1) (Some b)
   stays n b h e = (
     omega (arith, h.0),
     h.1,
@@ -108,8 +108,8 @@ module _ (pending : ℕ → Bool) (urgency : ℕ → ℕ × ℕ) where
     h.3,
   )
 
-  pub best_more : (n : ℕ) (o : Option ℕ) → Best n o → pending n ≡ true → Best (n + 1) (better_of before o n)
-  best_more n None h p = (
+  pub best_first : (n : ℕ) → Best n None → pending n ≡ true → Best (n + 1) (Some n)
+  best_first n h p = (
     omega arith,
     p,
     (λ k l q.
@@ -119,11 +119,6 @@ module _ (pending : ℕ → Bool) (urgency : ℕ → ℕ × ℕ) where
         ]),
     (λ j l q. absurd (both_ways (pending j) (h j l) q)),
   )
-  best_more n (Some b) h p =
-      elim (cases_Bool (before n b)) [
-        | inl e ↦ rw e (replaced n b h p e)
-        | inr e ↦ rw e (stays n b h e)
-      ]
 
   abbrev ahead : ℕ → ℕ → Bool
   ahead place other = before other place && pending other

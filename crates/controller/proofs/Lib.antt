@@ -1,3 +1,4 @@
 pub mod Choosing
 pub mod Ordering
+pub mod Picking
 pub mod Working

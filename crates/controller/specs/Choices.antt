@@ -1,5 +1,5 @@
 -- Which pending job works.
-use Rattle.std.specs.Prelude.{ℕ, ◌+◌, Bool, cond, not, ◌&&◌, ◌||◌, List, length, get_or, Some, None, Option, ◌==◌, nat_lt, slice_index_or}
+use Rattle.std.specs.Prelude.{ℕ, ◌+◌, Bool, cond, not, ◌&&◌, ◌||◌, List, length, get_or, None, Option, ◌==◌, nat_lt, slice_index_or}
 use Rattle.std.specs.Option.{unwrap_or}
 use Rattle.admission.specs.declared.plan.Rule.{Rule}
 use Rattle.admission.specs.declared.plan.AdoptedTask.{AdoptedTask}
@@ -37,8 +37,3 @@ chosen rule tasks jobs =
     first_below (length tasks) (λ place.
     pending_at jobs place
     && not (some_below (length tasks) (λ other. comes_before rule tasks jobs other place && pending_at jobs other)))
-
--- the better of the best so far and another place
-abbrev pub better_of : (ℕ → ℕ → Bool) → Option ℕ → ℕ → Option ℕ
-better_of before None place = Some place
-better_of before (Some best) place = cond (before place best) (Some place) (Some best)

@@ -1,6 +1,7 @@
 -- A controller as plain lists and numbers, and what each call answers and leaves.
 use Rattle.std.specs.Prelude.{ℕ, ◌+◌, min, Bool, true, false, cond, not, List, length, replicate, Some, None, Ok, Err, Option, Result, nat_le, nat_lt, slice_index_or, slice_set}
 use Rattle.std.specs.List.{slice_get}
+use Rattle.std.specs.Option.{option_map}
 use Rattle.shelf.specs.Models.{Model, reading_at}
 use Rattle.admission.specs.declared.plan.Step.{Step}
 use Rattle.admission.specs.declared.task.Segment.{Segment}
@@ -12,6 +13,7 @@ use Rattle.admission.specs.Tables.{Table, empty_table, plan_at, no_adopted_task}
 use Rattle.admission.specs.Held.{held}
 use Rattle.admission.specs.Verdicts.{asked, first_no, unless, verdict, answered, held_after, list_after, demanded}
 use Rattle.schedule.specs.Batches.{preemption}
+use Rattle.controller.specs.declared.batch.OpenBatch.{OpenBatch}
 use Rattle.controller.specs.declared.controller.Core.{Core}
 use Rattle.controller.specs.declared.job.Job.{Job}
 use Rattle.controller.specs.declared.job.Event.{Event}
@@ -40,21 +42,20 @@ pub record Machine : Type 0 where
   pub table : Table
   pub batch : Option Batch
 
-abbrev pub batch_in : Core → Batch
-batch_in core =
+abbrev pub batch_in : OpenBatch → Batch
+batch_in b =
     record {
-      clock = core.tally.clock;
-      releases = core.tally.releases;
-      finished = core.tally.finished;
-      retries = core.tally.retries;
-      preemptions = core.tally.preemptions;
-      jobs = core.jobs;
-      last = core.last;
+      clock = b.tally.clock;
+      releases = b.tally.releases;
+      finished = b.tally.finished;
+      retries = b.tally.retries;
+      preemptions = b.tally.preemptions;
+      jobs = b.jobs;
+      last = b.last;
     }
 
 abbrev pub machine : Model → Core → Machine
-machine model core =
-    record { model = model; table = held core.table; batch = cond core.running (Some (batch_in core)) None }
+machine model core = record { model = model; table = held core.table; batch = option_map batch_in core.batch }
 
 -- factory-new
 abbrev pub new_machine : Model → Machine

@@ -1,73 +1,30 @@
 ghost use Rattle.std.specs.Prelude.{◌≡◌, ℕ, ◌+◌, ◌<◌};
-ghost use Rattle.controller.specs.Turns.{word_of, pending_in, left_in, seen_in, start_of, goes_by, brings, outcome_of, model_after, turn};
+ghost use Rattle.controller.specs.Turns.{word_of, goes_by, brings, outcome_of, model_after, turn};
 
 use crate::job::{Event, Job, JobState};
 use admission::plan::{Step, Word};
 use shelf::interface::Shelf;
 
-// What comes of an attempt on a tick.
-#[derive(Clone, Copy)]
+// What comes of an attempt on a tick. No Option<bool>: each outcome has its name in the match below.
+#[derive(Clone, Copy, Debug, PartialEq, Eq)]
 pub enum Outcome {
     UnderWay,
     Accepted,
     Refused,
 }
 
-pub(crate) fn is_pending(state: JobState) -> bool
-    ensures { result ≡ pending_in state }
-{
-    match state {
-        JobState::Resting => false,
-        JobState::Computing { .. } => true,
-        JobState::Attempting { .. } => true,
-    }
-}
-
-fn ticks_left(state: JobState) -> u32
-    ensures { result ≡ left_in state }
-{
-    match state {
-        JobState::Resting => 0,
-        JobState::Computing { left } => left,
-        JobState::Attempting { left, .. } => left,
-    }
-}
-
-fn reading_seen(state: JobState) -> u32
-    ensures { result ≡ seen_in state }
-{
-    match state {
-        JobState::Resting => 0,
-        JobState::Computing { .. } => 0,
-        JobState::Attempting { seen, .. } => seen,
-    }
-}
-
-// A job at the start of a step, or at rest after the last.
-pub(crate) fn start_of(step: Option<Step>) -> JobState
-    ensures { result ≡ start_of step }
-{
-    match step {
-        None => JobState::Resting,
-        Some(Step::Compute { ticks }) => JobState::Computing { left: ticks },
-        Some(Step::Access { ticks, .. }) => JobState::Attempting {
-            left: ticks,
-            seen: 0,
-        },
-    }
-}
-
-// The reading that an attempt goes by: its first tick looks, before anything else.
+// The reading that an attempt goes by: its first tick looks, before anything else. 0 for computing,
+// which reads nothing; an Option would be taken apart in the one arm that has it.
 fn reading_for<S: Shelf>(shelf: &S, state: JobState, step: Step) -> u32
     ensures { result ≡ goes_by (S.Shelf.model shelf.now) state step }
 {
     match step {
         Step::Compute { .. } => 0,
         Step::Access { ticks, object, .. } => {
-            if ticks_left(state) == ticks {
+            if state.ticks_left() == ticks {
                 shelf.look(object)
             } else {
-                reading_seen(state)
+                state.reading_seen()
             }
         }
     }
@@ -82,7 +39,7 @@ fn word_of(word: Word, reading: u32, amount: u32) -> u32
     }
 }
 
-// The word that a step brings to its commit; computing brings none.
+// The word that a step brings to its commit; computing brings none, 0 as with the reading.
 fn word_for(step: Step, reading: u32) -> u32
     ensures { result ≡ brings step reading }
 {
@@ -107,7 +64,7 @@ fn commit_if_due<S: Shelf>(
         (JobState::Resting, _) => Outcome::UnderWay,
         (_, Step::Compute { .. }) => Outcome::UnderWay,
         (_, Step::Access { object, .. }) => {
-            if ticks_left(state) > 1 {
+            if state.ticks_left() > 1 {
                 return Outcome::UnderWay;
             }
             if shelf.commit(object, reading, word) {
@@ -131,7 +88,7 @@ pub(crate) fn advance<S: Shelf>(
     ensures event { result ≡ (turn (S.Shelf.model shelf.old) job.old step next).event }
     ensures shelf { S.Shelf.model shelf.new ≡ (turn (S.Shelf.model shelf.old) job.old step next).model }
 {
-    let left = ticks_left(job.state);
+    let left = job.state.ticks_left();
     let reading = reading_for(shelf, job.state, step);
     let word = word_for(step, reading);
     let outcome = commit_if_due(shelf, job.state, step, reading, word);
@@ -141,7 +98,7 @@ pub(crate) fn advance<S: Shelf>(
             if left > 1 {
                 job.state = JobState::Computing { left: left - 1 };
             } else {
-                job.state = start_of(next);
+                job.state = JobState::start_of(next);
                 job.step += 1;
             }
             Event::Computed
@@ -154,7 +111,7 @@ pub(crate) fn advance<S: Shelf>(
             Event::Attempted
         }
         (_, Step::Access { object, .. }, Outcome::Accepted) => {
-            job.state = start_of(next);
+            job.state = JobState::start_of(next);
             job.step += 1;
             Event::Committed { object, word }
         }

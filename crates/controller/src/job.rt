@@ -1,10 +1,15 @@
 ghost use Rattle.std.specs.Prelude.{◌≡◌};
 ghost use Rattle.controller.specs.Events.{event_number, event_object, event_word};
+ghost use Rattle.controller.specs.Machines.{is_retry_event, spaced};
+ghost use Rattle.controller.specs.Turns.{pending_in, left_in, seen_in, start_of};
+
+use admission::plan::Step;
 
 // Where a job stands in its present step.
-#[derive(Clone, Copy)]
+#[derive(Clone, Copy, Debug, Default, PartialEq, Eq)]
 pub enum JobState {
     // It has finished, or there is none.
+    #[default]
     Resting,
     // So many ticks are left of computing.
     Computing { left: u32 },
@@ -12,8 +17,56 @@ pub enum JobState {
     Attempting { left: u32, seen: u32 },
 }
 
-// The latest job of a task.
-#[derive(Clone, Copy)]
+impl JobState {
+    // A job at the start of a step, or at rest after the last.
+    pub(crate) fn start_of(step: Option<Step>) -> JobState
+        ensures { result ≡ start_of step }
+    {
+        match step {
+            None => JobState::Resting,
+            Some(Step::Compute { ticks }) => JobState::Computing { left: ticks },
+            Some(Step::Access { ticks, .. }) => JobState::Attempting {
+                left: ticks,
+                seen: 0,
+            },
+        }
+    }
+
+    pub(crate) fn is_pending(self) -> bool
+        ensures { result ≡ pending_in self }
+    {
+        match self {
+            JobState::Resting => false,
+            JobState::Computing { .. } => true,
+            JobState::Attempting { .. } => true,
+        }
+    }
+
+    // The ticks left of the present step; none at rest.
+    pub(crate) fn ticks_left(self) -> u32
+        ensures { result ≡ left_in self }
+    {
+        match self {
+            JobState::Resting => 0,
+            JobState::Computing { left } => left,
+            JobState::Attempting { left, .. } => left,
+        }
+    }
+
+    // The reading that an attempt goes by; 0 for the others, whose steps read nothing.
+    pub(crate) fn reading_seen(self) -> u32
+        ensures { result ≡ seen_in self }
+    {
+        match self {
+            JobState::Resting => 0,
+            JobState::Computing { .. } => 0,
+            JobState::Attempting { seen, .. } => seen,
+        }
+    }
+}
+
+// The latest job of a task; by default there was none yet.
+#[derive(Clone, Copy, Debug, Default, PartialEq, Eq)]
 pub struct Job {
     pub state: JobState,
     // The index of its present step.
@@ -22,8 +75,18 @@ pub struct Job {
     pub released: Option<u32>,
 }
 
+impl Job {
+    // Whether a release may come: the first of the batch, or at least a period after the last.
+    pub(crate) fn is_spaced(&self, period: u32, clock: u32) -> bool
+        ensures { result ≡ spaced self.now.released period clock }
+    {
+        self.released
+            .is_none_or(|last| last as u64 + period as u64 <= clock as u64)
+    }
+}
+
 // What a tick did.
-#[derive(Clone, Copy)]
+#[derive(Clone, Copy, Debug, PartialEq, Eq)]
 pub enum Event {
     Computed,
     // An attempt is under way.
@@ -37,6 +100,13 @@ pub enum Event {
 }
 
 impl Event {
+    pub(crate) fn is_retry(&self) -> bool
+        ensures { result ≡ is_retry_event self.now }
+    {
+        matches!(self, Event::Retried { .. })
+    }
+
+    // Three plain numbers: the answer format has all three for each event, 0 where there is none.
     pub fn number(&self) -> u32
         ensures { result ≡ event_number self.now }
     {
@@ -71,8 +141,9 @@ impl Event {
     }
 }
 
-// What tick answers: who worked (0 if nobody did), what it did, and whether the job finished.
-#[derive(Clone, Copy)]
+// What tick answers: who worked, what it did, and whether the job finished. The answer format has a
+// place for each tick, 0 if nobody worked.
+#[derive(Clone, Copy, Debug, PartialEq, Eq)]
 pub struct Ticked {
     pub place: u32,
     pub event: Event,
@@ -80,7 +151,7 @@ pub struct Ticked {
 }
 
 // What close answers.
-#[derive(Clone, Copy)]
+#[derive(Clone, Copy, Debug, PartialEq, Eq)]
 pub struct Sums {
     pub ticks: u32,
     pub releases: u64,

@@ -2,6 +2,7 @@
 #![tactic(auto)]
 
 pub mod advance;
+pub mod batch;
 pub mod controller;
 pub mod job;
 pub mod tally;

@@ -3,7 +3,9 @@ ghost use Rattle.std.specs.Prelude.{◌≡◌, true, false};
 // What open gives, good or void. It must be handed to close, which spends it: a program that lets
 // one lapse is refused at its build.
 pub struct BatchToken {
+    // A flag, not an Option of a token: a refused open hands out a void one, to be handed in as well.
     good: bool,
+    // A flag, since a drop cannot ask that close was called, only that this is set.
     spent: bool,
 }
 

@@ -1,14 +1,13 @@
-ghost use Rattle.std.specs.Prelude.{◌≡◌, ℕ, ◌+◌, ◌<◌, ◌≤◌, true, length, IfSome};
-ghost use Rattle.admission.specs.declared.plan.Rule.TheVariants.{RateMonotonic};
+ghost use Rattle.std.specs.Prelude.{◌≡◌, ◌<◌, true, length, IfSome};
+ghost use Rattle.admission.specs.Held.{held};
 ghost use Rattle.admission.specs.Search.{count_below};
 ghost use Rattle.admission.specs.Tables.{goes_by_rank};
-ghost use Rattle.admission.specs.Tests.{Ordered};
-ghost use Rattle.controller.specs.Choices.{urgency_of, is_more_urgent, comes_before, chosen, pending_at, better_of};
+ghost use Rattle.controller.specs.Choices.{urgency_of, chosen, pending_at};
 
-use crate::advance::is_pending;
 use crate::job::Job;
 use admission::plan::{AdoptedTask, Rule};
 use admission::rank::is_by_rank;
+use admission::table::AdoptedTable;
 
 // The urgency of a job: its rank, or its absolute deadline and then its release. The lower goes
 // first.
@@ -22,105 +21,55 @@ fn urgency(rule: Rule, task: &AdoptedTask, job: &Job) -> (u64, u64)
     (released + task.deadline as u64, released)
 }
 
-fn more_urgent(a: (u64, u64), b: (u64, u64)) -> bool
-    ensures { result ≡ is_more_urgent a b }
-{
-    a.0 < b.0 || (a.0 == b.0 && a.1 < b.1)
-}
-
-// Whether the job of place `a` goes before that of place `b`.
-fn goes_before(rule: Rule, tasks: &[AdoptedTask], jobs: &[Job; 32], a: usize, b: usize) -> bool
-    requires { (length tasks.now ≤ 32) × ((a < length tasks.now) × (b < length tasks.now)) }
-    ensures { result ≡ comes_before rule tasks.now jobs.now a b }
-{
-    let first = urgency(rule, &tasks[a], &jobs[a]);
-    let second = urgency(rule, &tasks[b], &jobs[b]);
-    more_urgent(first, second)
-}
-
 // The place of the pending job that works next: the most urgent, and of equals the lowest place. By
 // rank, the order of the places finds it with no comparing.
-pub(crate) fn next_place(
-    rule: Rule,
-    tasks: &[AdoptedTask],
-    order: &[usize],
-    jobs: &[Job; 32],
-) -> Option<usize>
-    requires few { (length tasks.now ≤ 32) × (length order.now ≡ length tasks.now) }
-    requires ordered { goes_by_rank rule ≡ true → Ordered tasks.now order.now }
-    ensures is { result ≡ chosen rule tasks.now jobs.now }
-    ensures inside { IfSome result (λ place. place < length tasks.now) }
+pub(crate) fn next_place(table: &AdoptedTable, jobs: &[Job; 32]) -> Option<usize>
+    ensures is { result ≡ chosen (held table.now).rule (held table.now).tasks jobs.now }
+    ensures inside { IfSome result (λ place. place < 32) }
 {
-    if is_by_rank(rule) {
-        lowest_ranked(tasks, order, jobs)
+    if is_by_rank(table.rule()) {
+        lowest_ranked(table, jobs)
     } else {
-        most_urgent(rule, tasks, jobs)
+        most_urgent(table, jobs)
     }
 }
 
 // By rank: the pending job of lowest rank, the first that the order of the places comes to.
-fn lowest_ranked(tasks: &[AdoptedTask], order: &[usize], jobs: &[Job; 32]) -> Option<usize>
-    requires { (length tasks.now ≤ 32) × ((length order.now ≡ length tasks.now) × (Ordered tasks.now order.now)) }
-    ensures is { result ≡ chosen RateMonotonic tasks.now jobs.now }
-    ensures inside { IfSome result (λ place. place < length tasks.now) }
+fn lowest_ranked(table: &AdoptedTable, jobs: &[Job; 32]) -> Option<usize>
+    requires { goes_by_rank (held table.now).rule ≡ true }
+    ensures is { result ≡ chosen (held table.now).rule (held table.now).tasks jobs.now }
+    ensures inside { IfSome result (λ place. place < 32) }
 {
-    for rank in 0..order.len() {
-        let place = order[rank];
-        if is_pending(jobs[place].state) {
-            return Some(place);
-        }
-    }
-    None
+    table
+        .order()
+        .iter()
+        .copied()
+        .find(|place| jobs[*place].state.is_pending())
 }
 
-// Under any rule: the most urgent pending job, found by comparing all of them.
-pub(crate) fn most_urgent(rule: Rule, tasks: &[AdoptedTask], jobs: &[Job; 32]) -> Option<usize>
-    requires { length tasks.now ≤ 32 }
-    ensures is { result ≡ chosen rule tasks.now jobs.now }
-    ensures inside { IfSome result (λ place. place < length tasks.now) }
+// Under any rule: the most urgent pending job, found by comparing all of them. Of equals,
+// `min_by_key` gives the first.
+fn most_urgent(table: &AdoptedTable, jobs: &[Job; 32]) -> Option<usize>
+    ensures is { result ≡ chosen (held table.now).rule (held table.now).tasks jobs.now }
+    ensures inside { IfSome result (λ place. place < 32) }
 {
-    let mut best: Option<usize> = None;
-    for place in 0..tasks.len() {
-        if is_pending(jobs[place].state) {
-            best = better(rule, tasks, jobs, best, place);
-        }
-    }
-    best
+    let rule = table.rule();
+    table
+        .tasks()
+        .iter()
+        .zip(jobs)
+        .enumerate()
+        .filter(|(_, (_, job))| job.state.is_pending())
+        .min_by_key(|(_, (task, job))| urgency(rule, task, job))
+        .map(|(place, _)| place)
 }
 
-// How many jobs are pending.
-pub(crate) fn count_pending(jobs: &[Job; 32], count: usize) -> u32
-    requires { count ≤ 32 }
-    ensures { result ≡ count_below count (pending_at jobs.now) }
+// How many jobs of the table's tasks are pending.
+pub(crate) fn count_pending(table: &AdoptedTable, jobs: &[Job; 32]) -> u32
+    ensures { result ≡ count_below (length (held table.now).tasks) (pending_at jobs.now) }
 {
-    let mut pending: u32 = 0;
-    for place in 0..count {
-        if is_pending(jobs[place].state) {
-            pending += 1;
-        }
-    }
-    pending
-}
-
-// The more urgent of the best so far and the job of a place.
-fn better(
-    rule: Rule,
-    tasks: &[AdoptedTask],
-    jobs: &[Job; 32],
-    best: Option<usize>,
-    place: usize,
-) -> Option<usize>
-    requires { (length tasks.now ≤ 32) × ((place < length tasks.now) × (IfSome best (λ b. b < place))) }
-    ensures { result ≡ better_of (comes_before rule tasks.now jobs.now) best place }
-{
-    match best {
-        None => Some(place),
-        Some(other) => {
-            if goes_before(rule, tasks, jobs, place, other) {
-                Some(place)
-            } else {
-                Some(other)
-            }
-        }
-    }
+    jobs[..table.tasks().len()]
+        .iter()
+        .filter(|job| job.state.is_pending())
+        .count() as u32
 }

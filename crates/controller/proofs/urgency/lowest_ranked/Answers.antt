@@ -1,34 +1,27 @@
-use Rattle.std.proofs.Common.{length, get_or, Some, None, sym, arith}
-use Rattle.admission.specs.Tables.{no_adopted_task}
+use Rattle.std.proofs.Common.{◌≡◌, ℕ, ◌<◌, ◌≤◌, false, true, length, get_or, arith, rules, tests}
+use Rattle.std.proofs.lemmas.Iterator.{YieldsList-from_slice, first_from_find}
+use Rattle.std.proofs.lemmas.Iterator.Adapters.{serves_from_places}
+use Rattle.std.proofs.lemmas.Iterator.Consumers.{YieldsList-from_copied}
+use Rattle.std.proofs.lemmas.List.{get_or_default, length-take}
+use Rattle.admission.specs.Held.{held}
 use Rattle.controller.specs.Choices.{pending_at}
-use Rattle.controller.proofs.Choosing.{best_chosen}
-use Rattle.controller.proofs.Ordering.{none_more, best_ranked, best_none}
+use Rattle.controller.proofs.Ordering.{first_ranked}
 use Rattle.controller.proofs.urgency.lowest_ranked.Goals as goal
 
-pub loop-rank-init : goal.loop-rank-init
-loop-rank-init c = λ r l. absurd (omega arith)
+pub find-requires-clause-callable : goal.find-requires-clause-callable
+find-requires-clause-callable c =
+    let order = c.order.result.now in
+    let tasks = (held c.args.table.now).tasks in
+    let few : length tasks ≤ 32 = simp length-take (omega (arith, c.args.table.now.few)) in
+    serves_from_places (YieldsList-from_copied (YieldsList-from_slice order cc)) (λ x q k. search (rules, tests))
+    (λ x k l e.
+    let inside : get_or order k x < length tasks = rw (get_or_default order k x 0 l) ((c.order.ensures.ordered c.requires).entries k (omega (arith, c.order.ensures.long))) in
+    let low : x < 32 = omega (arith, e, inside, few) in
+    search (rules, low))
 
-pub loop-rank-preserved : goal.loop-rank-preserved
-loop-rank-preserved c =
-    none_more c.args.tasks.now c.args.order.now (pending_at c.args.jobs.now) c.loop-rank.rank c.loop-rank.invariant (sym c.if-is_pending.ensures)
-
-pub returns-then-is_pending : goal.returns-then-is_pending
-returns-then-is_pending c =
-    let tasks = c.args.tasks.now in
-    let order = c.args.order.now in
+pub returns-clause-is : goal.returns-clause-is
+returns-clause-is c =
+    let table = held c.args.table.now in
     let jobs = c.args.jobs.now in
-    let best = best_ranked tasks order (pending_at jobs) c.requires.1.1 c.loop-rank.rank (omega (arith, c.loop-rank-test.true, c.requires.1.0)) c.loop-rank.invariant (sym c.if-is_pending.ensures) in
-    record {
-      is = best_chosen (pending_at jobs) (λ place. ((get_or tasks place no_adopted_task).rank, 0)) (length tasks) (Some (get_or order c.loop-rank.rank 0)) best;
-      inside = best.0;
-    }
-
-pub returns : goal.returns
-returns c =
-    let tasks = c.args.tasks.now in
-    let jobs = c.args.jobs.now in
-    record {
-      is = best_chosen (pending_at jobs) (λ place. ((get_or tasks place no_adopted_task).rank, 0)) (length tasks) None
-          (best_none tasks c.args.order.now (pending_at jobs) c.requires.1.1 c.loop-rank.rank c.loop-rank.invariant (omega (arith, c.loop-rank-test.false, c.requires.1.0)));
-      inside = tt;
-    }
+    first_ranked table.rule table.tasks c.order.result.now jobs c.requires (c.order.ensures.ordered c.requires) c.order.ensures.long c.find.result
+    (first_from_find _ _ _ (λ (x : ℕ). pending_at jobs x ≡ true) (λ (x : ℕ). pending_at jobs x ≡ false) c.find.ensures.ran (YieldsList-from_copied (YieldsList-from_slice c.order.result.now cc)) (λ x q k. search (rules, tests)) (λ x q k. search (rules, tests)))

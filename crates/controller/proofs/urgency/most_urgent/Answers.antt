@@ -1,36 +1,30 @@
-use Rattle.std.proofs.Common.{ℕ, ◌+◌, length, get_or, Option, sym, ◌∙◌, subst, arith}
-use Rattle.admission.specs.Tables.{no_adopted_task}
-use Rattle.controller.specs.Choices.{no_job, pending_at, urgency_of}
-use Rattle.controller.proofs.Choosing.{Best, best_skip, best_more, best_chosen, best_inside}
+use Rattle.std.proofs.Common.{◌≡◌, ℕ, ◌≤◌, List, length, subst, Option, Some, None, ◌∙◌, refl, ap, rules, tests, arith, Bor}
+use Rattle.std.proofs.lemmas.Iterator.{YieldsList-from_slice, YieldsList-from_zip}
+use Rattle.std.proofs.lemmas.Iterator.Consumers.{YieldsList-from_enumerate, YieldsList-from_filter}
+use Rattle.std.specs.Option.{option_map}
+use Rattle.admission.specs.declared.plan.AdoptedTask.{AdoptedTask}
+use Rattle.controller.specs.declared.job.Job.{Job}
+use Rattle.admission.specs.Held.{held}
+use Rattle.controller.specs.Choices.{urgency_of}
+use Rattle.controller.specs.Turns.{pending_in}
+use Rattle.controller.proofs.Picking.{least_from_min_by_key, least_is_chosen, pair_cmp}
 use Rattle.controller.proofs.urgency.most_urgent.Goals as goal
-use Rattle.controller.proofs.urgency.most_urgent.Goals.{then-is_pending, else-is_pending}
 
-pub loop-place-init : goal.loop-place-init
-loop-place-init c = λ k l. absurd (omega arith)
+-- an item shows its place
+shows_place : (o : Option (ℕ × (Bor AdoptedTask × Bor Job))) → option_map (λ (b : ℕ × (Bor AdoptedTask × Bor Job)). b.0) o ≡ option_map (λ (b : ℕ × (AdoptedTask × Job)). b.0) (option_map (λ (b : ℕ × (Bor AdoptedTask × Bor Job)). (b.0, (b.1.0.now, b.1.1.now))) o)
+shows_place None = refl
+shows_place (Some b) = refl
 
-pub better-best-requires : goal.better-best-requires
-better-best-requires c = (c.requires, (c.loop-place-test.true, best_inside (pending_at c.args.jobs.now) (λ place. urgency_of c.args.rule (get_or c.args.tasks.now place no_adopted_task) (get_or c.args.jobs.now place no_job)) c.loop-place.place c.loop-place.best c.loop-place.invariant))
-
-pub loop-place-preserved : goal.loop-place-preserved
-loop-place-preserved c =
-    let jobs = c.args.jobs.now in
-    let urgency : ℕ → ℕ × ℕ = λ place. urgency_of c.args.rule (get_or c.args.tasks.now place no_adopted_task) (get_or jobs place no_job) in
-    elim c.if-is_pending.branch [
-      | then-is_pending w ↦
-          subst (λ (o : Option ℕ). Best (pending_at jobs) urgency (c.loop-place.place + 1) o) (sym (w.best-is ∙ w.better-best.ensures))
-          (best_more (pending_at jobs) urgency c.loop-place.place c.loop-place.best c.loop-place.invariant (sym w.if-is_pending.ensures))
-      | else-is_pending w ↦
-          subst (λ (o : Option ℕ). Best (pending_at jobs) urgency (c.loop-place.place + 1) o) (sym w.best-is)
-          (best_skip (pending_at jobs) urgency c.loop-place.place c.loop-place.best c.loop-place.invariant (sym w.if-is_pending.ensures))
-    ]
-
-pub returns : goal.returns
-returns c =
-    let jobs = c.args.jobs.now in
-    let urgency : ℕ → ℕ × ℕ = λ place. urgency_of c.args.rule (get_or c.args.tasks.now place no_adopted_task) (get_or jobs place no_job) in
-    let h : Best (pending_at jobs) urgency (length c.args.tasks.now) c.loop-place.best =
-    subst (λ (n : ℕ). Best (pending_at jobs) urgency n c.loop-place.best) (omega arith) c.loop-place.invariant in
-    record {
-      is = best_chosen (pending_at jobs) urgency (length c.args.tasks.now) c.loop-place.best h;
-      inside = best_inside (pending_at jobs) urgency (length c.args.tasks.now) c.loop-place.best h;
-    }
+pub returns-clause-is : goal.returns-clause-is
+returns-clause-is c =
+    let table = held c.args.table.now in
+    let few : length table.tasks ≤ 32 = subst (λ (tasks : List AdoptedTask). length tasks ≤ 32) c.tasks.ensures.are c.tasks.ensures.few in
+    let placed : c.map.result ≡ option_map (λ (b : ℕ × (Bor AdoptedTask × Bor Job)). b.0) c.min_by_key.result = search rules in
+    placed
+    ∙ shows_place c.min_by_key.result
+    ∙ ap (option_map (λ (b : ℕ × (AdoptedTask × Job)). b.0))
+    (least_from_min_by_key _ _ pair_cmp (λ (b : ℕ × (AdoptedTask × Job)). urgency_of table.rule b.1.0 b.1.1) _ (λ x k q h. search (rules, tests)) _ _ c.min_by_key.result c.min_by_key.ensures.ran
+    (YieldsList-from_filter _ (λ (b : ℕ × (AdoptedTask × Job)). pending_in b.1.1.state)
+    (YieldsList-from_enumerate (YieldsList-from_zip (YieldsList-from_slice table.tasks cc) (YieldsList-from_slice c.args.jobs.now cc)) cc)
+    c.filter.ensures.closure (λ x b q k. search (rules, tests))))
+    ∙ least_is_chosen table.rule table.tasks c.args.jobs.now (omega (arith, few))
