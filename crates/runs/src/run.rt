@@ -26,13 +26,10 @@ pub struct TooLong<S> {
 }
 
 // All calls, in order, in room that was reserved for them.
+#[tactic(auto, using(crate::proofs::Loops::story_new, std::proofs::lemmas::List::nil_from_length))]
 fn run_reserved<S: Shelf>(shelf: S, calls: &mut [Call], room: Room) -> Ran<S>
     requires { length calls.old ≤ room.calls }
-    ensures law { Law (start (S.Shelf.model shelf)) (map entry_of calls.old) result.answers.items }
-    ensures lists { map entry_of calls.new ≡ written_all (start (S.Shelf.model shelf)) (map entry_of calls.old) result.answers.items }
-    ensures contents { S.Shelf.model result.controller.shelf ≡ (after (start (S.Shelf.model shelf)) (map entry_of calls.old) (result.answers.items)).model }
-    ensures held { goods result.tokens.items ≡ (after (start (S.Shelf.model shelf)) (map entry_of calls.old) (result.answers.items)).held }
-    ensures whole { RunLaw (S.Shelf.model shelf) (map entry_of calls.old) (map entry_of calls.new) result.answers.items (machine (S.Shelf.model result.controller.shelf) result.controller.core) (goods result.tokens.items) }
+    ensures { RunLaw (S.Shelf.model shelf) (map entry_of calls.old) (map entry_of calls.new) result.answers.items (machine (S.Shelf.model result.controller.shelf) result.controller.core) (goods result.tokens.items) }
 {
     let Room {
         calls: _,

@@ -1,25 +1,9 @@
-use Rattle.std.proofs.Common.{◌<◌, length, get_or, vec_items, vec_len, vec_capacity, sym, refl, ap, ◌∙◌, arith}
-use Rattle.std.proofs.lemmas.List.{nil_from_length}
+use Rattle.std.proofs.Common.{◌<◌, length, get_or, vec_items, ap, arith}
 use Rattle.controller.specs.Machines.{new_machine}
 use Rattle.runs.specs.declared.calls.Call.{Call}
-use Rattle.runs.specs.Entries.{goods}
 use Rattle.runs.specs.Sessions.{machine_of, held_in}
-use Rattle.runs.proofs.Loops.{story_new, loop_more, loop_rest, loop_end}
+use Rattle.runs.proofs.Loops.{loop_more, loop_rest, loop_end}
 use Rattle.runs.proofs.run.run_reserved.Goals as goal
-
-pub loop-call-init : goal.loop-call-init
-loop-call-init g c =
-    let room = c.args.room in
-    let same = c.new-session.ensures.tokens in
-    let a = nil_from_length (vec_items room.answers) (sym room.answers.ok.0 ∙ room.empty.0) in
-    let t = ap vec_items same ∙ nil_from_length (vec_items room.tokens) (sym room.tokens.ok.0 ∙ room.empty.1) in (
-      story_new (new_machine (g.S.Shelf.model c.args.shelf)) (vec_items room.answers) (machine_of g.S.Shelf.model c.new-session.result) (held_in c.new-session.result) a c.new-session.ensures.machine (ap goods t),
-      refl {a = c.args.calls.now},
-      room.empty.0,
-      omega arith,
-      omega (arith, ap vec_len same),
-      omega (arith, ap vec_capacity same),
-    )
 
 pub loop-call-preserved : goal.loop-call-preserved
 loop-call-preserved g c =
@@ -44,7 +28,4 @@ loop-call-preserved g c =
 
 pub returns : goal.returns
 returns g c =
-    let whole =
     loop_end (g.S.Shelf.model c.args.shelf) c.args.calls.now c.loop-call.calls (vec_items c.loop-call.answers) (machine_of g.S.Shelf.model c.loop-call.session) (held_in c.loop-call.session) c.loop-call.call-index c.loop-call-test.false (omega arith) c.loop-call.invariant.0
-    in
-    record { law = whole.law; lists = whole.lists; contents = whole.contents; held = whole.tokens; whole = whole }
