@@ -1,9 +1,9 @@
 -- One call: its answer fits the ledger, and ledger and controller agree again.
-use Rattle.std.proofs.Common.{◌≡◌, ℕ, ◌+◌, ◌<◌, Bool, true, false, cond, not, ltb, List, [], ◌∷◌, ◌++◌, length, get_or, Some, None, Ok, Err, Option, Result, sym, refl, ap, ◌∙◌, subst, inl, inr, arith}
+use Rattle.std.proofs.Common.{◌≡◌, ℕ, ◌+◌, ◌<◌, Bool, true, false, cond, not, ltb, List, [], ◌∷◌, ◌++◌, length, get_or, Some, None, Ok, Err, Option, Result, sym, refl, ap, ◌∙◌, inl, inr, arith}
 use Rattle.std.specs.List.{slice_get}
 use Rattle.std.proofs.lemmas.List.{get_or-replicate}
 use Rattle.std.proofs.lemmas.Bool.{cases_Bool, ltb-true, ltb-false, not-true}
-use Rattle.shelf.specs.Models.{Rules, Model}
+use Rattle.shelf.specs.Models.{Model}
 use Rattle.admission.specs.declared.task.Segment.{Segment}
 use Rattle.admission.specs.declared.task.Task.{Task}
 use Rattle.admission.specs.declared.plan.Rule.{Rule}
@@ -26,7 +26,7 @@ use Rattle.runs.specs.declared.calls.Answer.TheVariants.{Closed, Worked, NoToken
 use Rattle.runs.specs.Entries.{Entry, adopts, opens, releases, ticks, closes, reads, demands, answered, stepped, held_after, lists_after, without, good_in, adopt_answer_of, release_answer_of, tick_answer, close_answer_of}
 use Rattle.runs.specs.Ledger.{Book, Ledger, start, fresh_book, feed, feed_tick, is_done, left_of, release_of, with_table, contents_after, after_event, working, idling}
 use Rattle.runs.specs.Laws.{Fits, written_by, close_fits, AnswerFits, TickFits}
-use Rattle.runs.proofs.Views.{view_of, left_in', Turned, ObjectsExist, objects_drop}
+use Rattle.runs.proofs.Views.{twice, view_of, left_in', Turned, objects_drop}
 use Rattle.runs.proofs.Turning.{turned}
 use Rattle.runs.proofs.Tables.{TableSound, empty_sound, verdict_taken}
 use Rattle.runs.proofs.Agree.{view_at, BatchAgrees, BookAgrees, ledger_of, Agrees}
@@ -72,7 +72,7 @@ fresh_agrees model table sound =
       past = tt;
       counted = λ a l. omega arith;
       last_is = refl;
-      worker = λ w e. absurd (let z : ◌≡◌ {A = ℕ} 0 1 = cc in omega arith);
+      worker = λ w e. cc;
       retries_is = refl;
       preemptions_is = refl;
       finished_is = refl;
@@ -166,10 +166,6 @@ module _ (model : Model) (table : Table) (hs : List Bool) (sound : TableSound mo
             ∙ ap (λ (c : ℕ). first_no (asked (spaced (release_of place book.jobs) (get_or table.tasks place no_adopted_task).period c) TooSoon) (asked (is_done (left_of place book.jobs)) Unfinished)) (sym B.clock_is))
         | inr e ↦ rw e refl
       ]
-    where
-      twice : (b : Bool) → not (not b) ≡ b
-      twice true = refl
-      twice false = refl
 
   release_next : (place : ℕ) (book : Book) (batch : Batch) (no : Option Refusal) → good_in hs ≡ 1 → BatchAgrees model table book batch → release_no table batch place ≡ no
       → Agrees (feed (ledger_of (at (Some batch)) (Some book) hs) (releases place) (release_answer_of (unless no (batch.clock + (get_or table.tasks place no_adopted_task).deadline))))
@@ -219,11 +215,9 @@ module _ (model : Model) (table : Table) (hs : List Bool) (sound : TableSound mo
       let rest = drop_next job.step plan s.1.0 s.0 here in
       let now : slice_get plan job.step ≡ Some s.0 = nth_drop job.step plan ∙ ap (λ (xs : List Step). slice_get xs 0) here in
       let later : slice_get plan (job.step + 1) ≡ slice_get s.1.0 0 = nth_drop (job.step + 1) plan ∙ ap (λ (xs : List Step). slice_get xs 0) rest in
-      let objects = subst (λ (xs : List Step). ObjectsExist model.rules.exists xs) here (objects_drop model.rules.exists job.step plan (sound.objects k best.0)) in
+      let objects = rw here at (objects_drop model.rules.exists job.step plan (sound.objects k best.0)) in
       let T = turned model plan job s.0 s.1.0 best.1 here rest objects in
-      subst (λ (o : Option Step). Ticks book (step_tick model table batch k o)) (sym now)
-      (subst (λ (o : Option Step). Ticks book (turn_tick batch k (turn model job s.0 o))) (sym later)
-      (made (turn model job s.0 (slice_get s.1.0 0)) T))
+      rw (now, later) (made (turn model job s.0 (slice_get s.1.0 0)) T)
     where
       made : (t : Turn) → Turned model (plan_at table.plans k) (get_or batch.jobs k no_job) t → Ticks book (turn_tick batch k t)
       made t T =
@@ -237,7 +231,7 @@ module _ (model : Model) (table : Table) (hs : List Bool) (sound : TableSound mo
               is = is;
               model_is = contents;
               held_is = refl;
-              sound = subst (λ (r : Rules). TableSound r table) (sym T.rules) sound;
+              sound = rw T.rules sound;
               agrees = (g, work_agrees model table book batch sound B early k best t T);
             };
           }
@@ -290,4 +284,4 @@ module _ (model : Model) (table : Table) (hs : List Bool) (sound : TableSound mo
 
 pub step : (L : Ledger) (m : Machine) (hs : List Bool) (e : Entry) → Agrees L m hs → Stepping L m hs e
 step L m hs e A =
-    subst (λ (K : Ledger). Stepping K m hs e) (sym A.is) (step_at_lem m.model m.table hs A.sound e A.book m.batch A.agrees)
+    rw A.is (step_at_lem m.model m.table hs A.sound e A.book m.batch A.agrees)

@@ -1,5 +1,5 @@
 -- A list of calls, and its law by one induction along it.
-use Rattle.std.proofs.Common.{◌≡◌, ℕ, zero, suc, Bool, List, [], ◌∷◌, ◌++◌, take, sym, refl, ap, ◌∙◌, subst}
+use Rattle.std.proofs.Common.{◌≡◌, ℕ, zero, suc, Bool, List, [], ◌∷◌, ◌++◌, take, sym, refl, ap, ◌∙◌}
 use Rattle.shelf.specs.Models.{Model}
 use Rattle.controller.specs.Machines.{Machine, new_machine}
 use Rattle.runs.specs.declared.calls.Answer.{Answer}
@@ -95,7 +95,7 @@ run_law model es =
       lists = lists_are (start model) m [] es A;
       tokens = sym B.held_is;
       tokens_throughout = λ k.
-          subst (λ (rs : List Answer). TokensKept (after (start model) (take k es) rs)) (answers_take m [] es k) (tokens_after (start model) m [] (take k es) A);
+          rw (answers_take m [] es k) at (tokens_after (start model) m [] (take k es) A);
       answered_by = refl;
       left_by = refl;
       onward = λ more. lawful (after (start model) es (answered_all m [] es)) (stepped_all m [] es) (held_all m [] es) more B;
@@ -104,8 +104,4 @@ run_law model es =
 
 pub story_law : (model : Model) (es ds : List Entry) (rs : List Answer) (m : Machine) (hs : List Bool) → Story (new_machine model) es ds rs m hs → RunLaw model es ds rs m hs
 story_law model es ds rs m hs T =
-    let m₀ = new_machine model in
-    subst (λ (x : List Entry). RunLaw model es x rs m hs) (sym T.lists)
-    (subst (λ (x : List Answer). RunLaw model es (lists_all m₀ [] es) x m hs) (sym T.answers)
-    (subst (λ (x : Machine). RunLaw model es (lists_all m₀ [] es) (answered_all m₀ [] es) x hs) (sym T.machine)
-    (subst (λ (x : List Bool). RunLaw model es (lists_all m₀ [] es) (answered_all m₀ [] es) (stepped_all m₀ [] es) x) (sym T.held) (run_law model es))))
+    rw (T.lists, T.answers, T.machine, T.held) (run_law model es)

@@ -1,12 +1,11 @@
 ghost use Rattle.std.specs.Prelude.{◌≡◌, ◌<◌, MatchResult, vec_len, vec_capacity, nat_lt};
 ghost use Rattle.controller.specs.Machines.{machine, new_machine, closed};
 ghost use Rattle.runs.specs.declared.calls.Answer.TheVariants.{Refused};
-ghost use Rattle.runs.specs.Entries.{entry_of, adopts, opens, closes, good_in, answered, stepped, held_after, lists_after};
+ghost use Rattle.runs.specs.Entries.{entry_of, opens, closes, good_in, answered, stepped, held_after, lists_after};
 ghost use Rattle.runs.specs.Sessions.{machine_of, held_in, Grown};
 
 use crate::calls::{Answer, Call};
 use admission::refusal::Refusal;
-use admission::task::{Segment, Task};
 use controller::controller::Controller;
 use controller::token::BatchToken;
 use shelf::interface::Shelf;
@@ -38,18 +37,6 @@ impl<S: Shelf> Session<S> {
             controller: Controller::new(shelf),
             tokens,
         }
-    }
-
-    // Hands the lists of a call over.
-    fn adopt(&mut self, rule: u32, tasks: &mut Vec<Task>, segments: &Vec<Segment>) -> Answer
-        ensures answer { result ≡ answered (machine_of S.Shelf.model self.old) (held_in self.old) (adopts rule tasks.old.items segments.now.items) }
-        ensures machine { machine_of S.Shelf.model self.new ≡ stepped (machine_of S.Shelf.model self.old) (held_in self.old) (adopts rule tasks.old.items segments.now.items) }
-        ensures lists { adopts rule tasks.new.items segments.now.items ≡ lists_after (machine_of S.Shelf.model self.old) (adopts rule tasks.old.items segments.now.items) }
-        ensures tokens { self.new.tokens ≡ self.old.tokens }
-    {
-        answer_of(self.controller.adopt(rule, tasks, segments), |answer| {
-            Answer::Taken { answer }
-        })
     }
 
     // Opens a batch, and keeps the token, good or void.
@@ -94,7 +81,9 @@ impl<S: Shelf> Session<S> {
                 rule,
                 tasks,
                 segments,
-            } => self.adopt(*rule, tasks, segments),
+            } => answer_of(self.controller.adopt(*rule, tasks, segments), |answer| {
+                Answer::Taken { answer }
+            }),
             Call::Open => self.open(),
             Call::Release { place } => answer_of(self.controller.release(*place), |deadline| {
                 Answer::Released { deadline }

@@ -1,8 +1,10 @@
-use Rattle.std.proofs.Common.{◌<◌, length, get_or, vec_items, ap, arith}
+use Rattle.std.proofs.Common.{◌+◌, ◌<◌, length, get_or, vec_items, ap, ◌∙◌, arith}
+use Rattle.std.proofs.lemmas.List.{drop-set-lt}
+use Rattle.std.proofs.lemmas.Grind.{drop_more_same}
 use Rattle.controller.specs.Machines.{new_machine}
 use Rattle.runs.specs.declared.calls.Call.{Call}
 use Rattle.runs.specs.Sessions.{machine_of, held_in}
-use Rattle.runs.proofs.Loops.{loop_more, loop_rest, loop_end}
+use Rattle.runs.proofs.Loops.{loop_more, loop_end}
 use Rattle.runs.proofs.run.run_reserved.Goals as goal
 
 pub loop-call-preserved : goal.loop-call-preserved
@@ -19,7 +21,7 @@ loop-call-preserved g c =
           c.loop-call.invariant.0 h l c.loop-call.invariant.1 (ap (λ (x : Call). get_or ds i x) c.call-item.is)
           c.perform.ensures.answer c.perform.ensures.machine c.perform.ensures.held c.perform.ensures.lists
           c.push_reserved.ensures.items,
-      loop_rest cs ds i c.call-item.result c.perform.new.call h l c.loop-call.invariant.1,
+      drop-set-lt (i + 1) ds i c.perform.new.call (omega arith) ∙ drop_more_same ds cs i c.loop-call.invariant.1,
       omega (arith, c.push_reserved.ensures.len, c.loop-call.invariant.2),
       omega (arith, c.push_reserved.ensures.capacity, c.loop-call.invariant.3),
       omega (arith, c.perform.ensures.room.0, c.loop-call.invariant.4),
