@@ -22,10 +22,7 @@ fn answer_of<T, F: FnOnce(T) -> Answer>(outcome: Result<T, Refusal>, granted: F)
     requires { F.IsAlwaysCallable granted }
     ensures { MatchResult outcome (λ x. F.post granted x result) (λ e. result ≡ Refused e) }
 {
-    match outcome {
-        Ok(value) => granted(value),
-        Err(refusal) => Answer::Refused { refusal },
-    }
+    outcome.map_or_else(|refusal| Answer::Refused { refusal }, granted)
 }
 
 impl<S: Shelf> Session<S> {
