@@ -57,7 +57,7 @@ module _ (place : ℕ) (left : List Step) where
         | inl e ↦
             let n : eqb job.place b ≡ false = ne_eqb job.place b (λ i. d (sym i ∙ eqb-true job.place place e)) in
             rw (e, n) refl
-        | inr e ↦ rw e (ap (λ (x : List Step). cond (eqb job.place b) job.left x) (left_other b jobs d))
+        | inr e ↦ rw (e, left_other b jobs d) refl
       ]
 
   pub releases_kept : (b : ℕ) (jobs : List Booked) → releases_at b (with_left place left jobs) ≡ releases_at b jobs
@@ -65,7 +65,7 @@ module _ (place : ℕ) (left : List Step) where
   releases_kept b (job ∷ jobs) =
       elim (cases_Bool (eqb job.place place)) [
         | inl e ↦ rw e refl
-        | inr e ↦ rw e (ap (λ (x : List ℕ). cond (eqb job.place b) (job.release ∷ x) x) (releases_kept b jobs))
+        | inr e ↦ rw (e, releases_kept b jobs) refl
       ]
 
   pub release_kept : (b : ℕ) (jobs : List Booked) → release_of b (with_left place left jobs) ≡ release_of b jobs
@@ -73,13 +73,13 @@ module _ (place : ℕ) (left : List Step) where
   release_kept b (job ∷ jobs) =
       elim (cases_Bool (eqb job.place place)) [
         | inl e ↦ rw e refl
-        | inr e ↦ rw e (ap (λ (x : Option ℕ). cond (eqb job.place b) (Some job.release) x) (release_kept b jobs))
+        | inr e ↦ rw (e, release_kept b jobs) refl
       ]
 
   pub length_kept : (jobs : List Booked) → length (with_left place left jobs) ≡ length jobs
   length_kept [] = refl
   length_kept (job ∷ jobs) =
-      elim (cases_Bool (eqb job.place place)) [ inl e ↦ rw e refl | inr e ↦ rw e (ap suc (length_kept jobs)) ]
+      elim (cases_Bool (eqb job.place place)) [ inl e ↦ rw e refl | inr e ↦ rw (e, length_kept jobs) refl ]
 
   -- a pending job that has so much left afterwards has finished or not
   pub finished_more : (jobs : List Booked) → is_done (left_of place jobs) ≡ false → finished_in (with_left place left jobs) ≡ finished_in jobs + cond (is_done left) 1 0

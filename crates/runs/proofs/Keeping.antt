@@ -35,7 +35,7 @@ length_total (job ∷ jobs) = omega (arith, length_total jobs)
 
 pending_total : (jobs : List Booked) → pending_in jobs ≡ total_by waits jobs
 pending_total [] = refl
-pending_total (job ∷ jobs) = ap (λ (n : ℕ). cond (is_done job.left) 0 1 + n) (pending_total jobs)
+pending_total (job ∷ jobs) = rw (pending_total jobs) refl
 
 releases_total : (place : ℕ) (jobs : List Booked) → length (releases_at place jobs) ≡ total_at each place jobs
 releases_total place [] = refl
@@ -146,10 +146,10 @@ module _ (model : Model) (table : Table) (book : Book) (batch : Batch) (sound : 
       elim (cases_Bool (is_done (left_of a book.jobs))) [
         | inl d ↦
             let q : pending_at batch.jobs a ≡ false = B.pending_is a l ∙ ap not (sym (done_is a l) ∙ d) in
-            none_waits a book.jobs B.latest d ∙ sym (ap (λ (x : Bool). cond x 1 0) q)
+            rw q (none_waits a book.jobs B.latest d)
         | inr d ↦
             let q : pending_at batch.jobs a ≡ true = B.pending_is a l ∙ ap not (sym (done_is a l) ∙ d) in
-            one_waits a book.jobs B.latest d ∙ sym (ap (λ (x : Bool). cond x 1 0) q)
+            rw q (one_waits a book.jobs B.latest d)
       ])
 
   -- the sums that close answers are the ledger's

@@ -124,8 +124,8 @@ module _ (model : Model) (table : Table) (book : Book) (batch : Batch) (sound : 
             (λ b d i. left_new b d ∙ B.left_is b i ∙ ap left_in' (sym (view_other b d))) a l;
         pending_is = λ a l.
             each_place place (λ b. b < length table.tasks → pending_at next.jobs b ≡ not (is_at_rest (view_at table next b)))
-            (λ _. ap (λ (j : Job). pending_in j.state) job_here ∙ started_shown plan ∙ ap (λ (v : theory.Job). not (is_at_rest v)) (sym view_here))
-            (λ b d i. ap (λ (j : Job). pending_in j.state) (job_other b d) ∙ B.pending_is b i ∙ ap (λ (v : theory.Job). not (is_at_rest v)) (sym (view_other b d))) a l;
+            (λ _. rw (job_here, started plan) (started_shown plan))
+            (λ b d i. rw (job_other b d) (B.pending_is b i)) a l;
         released_is = λ a l.
             each_place place (λ b. b < length table.tasks → (get_or next.jobs b no_job).released ≡ release_of b booked.jobs)
             (λ _. ap (λ (j : Job). j.released) job_here ∙ ap (λ (c : ℕ). Some c) (sym B.clock_is) ∙ sym (rw self refl))

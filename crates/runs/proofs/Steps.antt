@@ -161,9 +161,7 @@ module _ (model : Model) (table : Table) (hs : List Bool) (sound : TableSound mo
         | inl e ↦
             let l = ltb-true place (length table.tasks) e in
             let p : not (pending_at batch.jobs place) ≡ is_done (left_of place book.jobs) = ap not (B.pending_is place l) ∙ twice (is_at_rest (view_at table batch place)) ∙ sym (done_is model table book batch sound B place l) in
-            rw e (ap (λ (b : Bool). first_no (asked (spaced (get_or batch.jobs place no_job).released (get_or table.tasks place no_adopted_task).period batch.clock) TooSoon) (asked b Unfinished)) p
-            ∙ ap (λ (o : Option ℕ). first_no (asked (spaced o (get_or table.tasks place no_adopted_task).period batch.clock) TooSoon) (asked (is_done (left_of place book.jobs)) Unfinished)) (B.released_is place l)
-            ∙ ap (λ (c : ℕ). first_no (asked (spaced (release_of place book.jobs) (get_or table.tasks place no_adopted_task).period c) TooSoon) (asked (is_done (left_of place book.jobs)) Unfinished)) (sym B.clock_is))
+            rw (e, p, B.released_is place l, B.clock_is) refl
         | inr e ↦ rw e refl
       ]
 

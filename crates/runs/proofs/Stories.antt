@@ -33,15 +33,14 @@ lists_are : (L : Ledger) (m : Machine) (hs : List Bool) (es : List Entry) → Ag
 lists_are L m hs [] A = refl
 lists_are L m hs (e ∷ es) A =
     let P = step L m hs e A in
-    ap (λ (x : Entry). x ∷ lists_all (stepped m hs e) (held_after m hs e) es) P.lists
-    ∙ ap (λ (xs : List Entry). written_by L e ∷ xs) (lists_are (feed L e (answered m hs e)) (stepped m hs e) (held_after m hs e) es P.next)
+    rw (P.lists, lists_are (feed L e (answered m hs e)) (stepped m hs e) (held_after m hs e) es P.next) refl
 
 -- the first answers are those to the first calls
 answers_take : (m : Machine) (hs : List Bool) (es : List Entry) (k : ℕ) → answered_all m hs (take k es) ≡ take k (answered_all m hs es)
 answers_take m hs es zero = refl
 answers_take m hs [] (suc k) = refl
 answers_take m hs (e ∷ es) (suc k) =
-    ap (λ (rs : List Answer). answered m hs e ∷ rs) (answers_take (stepped m hs e) (held_after m hs e) es k)
+    rw (answers_take (stepped m hs e) (held_after m hs e) es k) refl
 
 -- what a loop over the calls has done: nothing but the calls
 pub record Story (m₀ : Machine) (es ds : List Entry) (rs : List Answer) (m : Machine) (hs : List Bool) : Type 0 where
@@ -54,7 +53,7 @@ pub record Story (m₀ : Machine) (es ds : List Entry) (rs : List Answer) (m : M
 module _ (e : Entry) where
   answered_more : (m : Machine) (hs : List Bool) (es : List Entry) → answered_all m hs (es ++ e ∷ []) ≡ answered_all m hs es ++ answered (stepped_all m hs es) (held_all m hs es) e ∷ []
   answered_more m hs [] = refl
-  answered_more m hs (d ∷ es) = ap (λ (rs : List Answer). answered m hs d ∷ rs) (answered_more (stepped m hs d) (held_after m hs d) es)
+  answered_more m hs (d ∷ es) = rw (answered_more (stepped m hs d) (held_after m hs d) es) refl
 
   stepped_more : (m : Machine) (hs : List Bool) (es : List Entry) → stepped_all m hs (es ++ e ∷ []) ≡ stepped (stepped_all m hs es) (held_all m hs es) e
   stepped_more m hs [] = refl
@@ -66,19 +65,16 @@ module _ (e : Entry) where
 
   lists_more : (m : Machine) (hs : List Bool) (es : List Entry) → lists_all m hs (es ++ e ∷ []) ≡ lists_all m hs es ++ lists_after (stepped_all m hs es) e ∷ []
   lists_more m hs [] = refl
-  lists_more m hs (d ∷ es) = ap (λ (xs : List Entry). lists_after m d ∷ xs) (lists_more (stepped m hs d) (held_after m hs d) es)
+  lists_more m hs (d ∷ es) = rw (lists_more (stepped m hs d) (held_after m hs d) es) refl
 
 pub story_more : (m₀ : Machine) (es ds : List Entry) (rs : List Answer) (m : Machine) (hs : List Bool) (e d : Entry) (a : Answer) (n : Machine) (gs : List Bool) → Story m₀ es ds rs m hs → a ≡ answered m hs e → n ≡ stepped m hs e → gs ≡ held_after m hs e → d ≡ lists_after m e → Story m₀ (es ++ e ∷ []) (ds ++ d ∷ []) (rs ++ a ∷ []) n gs
 story_more m₀ es ds rs m hs e d a n gs T ea en eg ed =
     record {
-      answers = ap (λ (xs : List Answer). xs ++ a ∷ []) T.answers ∙ ap (λ (x : Answer). answered_all m₀ [] es ++ x ∷ []) (ea ∙ at (λ x gs. answered x gs e)) ∙ sym (answered_more e m₀ [] es);
-      machine = en ∙ at (λ x gs. stepped x gs e) ∙ sym (stepped_more e m₀ [] es);
-      held = eg ∙ at (λ x gs. held_after x gs e) ∙ sym (held_more e m₀ [] es);
-      lists = ap (λ (xs : List Entry). xs ++ d ∷ []) T.lists ∙ ap (λ (x : Entry). lists_all m₀ [] es ++ x ∷ []) (ed ∙ at (λ x gs. lists_after x e)) ∙ sym (lists_more e m₀ [] es);
+      answers = rw (ea, T.answers, T.machine, T.held, answered_more e m₀ [] es) refl;
+      machine = rw (en, T.machine, T.held, stepped_more e m₀ [] es) refl;
+      held = rw (eg, T.machine, T.held, held_more e m₀ [] es) refl;
+      lists = rw (ed, T.lists, T.machine, lists_more e m₀ [] es) refl;
     }
-  where
-    at : {X : Type 0} (f : Machine → List Bool → X) → f m hs ≡ f (stepped_all m₀ [] es) (held_all m₀ [] es)
-    at f = ap (λ (x : Machine). f x hs) T.machine ∙ ap (f (stepped_all m₀ [] es)) T.held
 
 -- the whole promise, of the calls alone
 run_law : (model : Model) (es : List Entry) → RunLaw model es (lists_all (new_machine model) [] es) (answered_all (new_machine model) [] es) (stepped_all (new_machine model) [] es) (held_all (new_machine model) [] es)
@@ -90,8 +86,7 @@ run_law model es =
       law = lawful (start model) m [] es A;
       contents = sym B.model_is;
       throughout = λ k.
-          sym (agrees_after (start model) m [] (take k es) A).model_is
-          ∙ ap (λ (rs : List Answer). (after (start model) (take k es) rs).model) (answers_take m [] es k);
+          rw (answers_take m [] es k) at (sym (agrees_after (start model) m [] (take k es) A).model_is);
       lists = lists_are (start model) m [] es A;
       tokens = sym B.held_is;
       tokens_throughout = λ k.

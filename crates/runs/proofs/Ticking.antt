@@ -183,7 +183,7 @@ module _ (model : Model) (table : Table) (book : Book) (batch : Batch) (sound : 
       view_other b d = ap (view_of (plan_at table.plans b)) (job_other b d)
 
       pending_here : pending_at next.jobs k ≡ not (is_at_rest (view_at table next k))
-      pending_here = ap (λ (j : Job). pending_in j.state) job_here ∙ T.shown ∙ ap (λ (v : theory.Job). not (is_at_rest v)) (sym view_here)
+      pending_here = rw job_here T.shown
 
       abbrev left : List Step
       left = left_after t.event (left_of k book.jobs)
@@ -236,7 +236,7 @@ module _ (model : Model) (table : Table) (book : Book) (batch : Batch) (sound : 
             pending_is = λ a l.
                 each_place k (λ b. b < n → pending_at next.jobs b ≡ not (is_at_rest (view_at table next b)))
                 (λ _. pending_here)
-                (λ b d i. ap (λ (j : Job). pending_in j.state) (job_other b d) ∙ B.pending_is b i ∙ ap (λ (v : theory.Job). not (is_at_rest v)) (sym (view_other b d))) a l;
+                (λ b d i. rw (job_other b d) (B.pending_is b i)) a l;
             released_is = λ a l.
                 each_place k (λ b. b < n → (get_or next.jobs b no_job).released ≡ release_of b worked.jobs)
                 (λ i. ap (λ (j : Job). j.released) job_here ∙ T.released ∙ B.released_is k i ∙ sym (release_kept k left k book.jobs))
