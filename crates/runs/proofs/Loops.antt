@@ -21,7 +21,7 @@ same_call cs ds i x h l e v =
 pub loop_more : (m₀ : Machine) (cs ds : List Call) (rs us : List Answer) (m n : Machine) (hs gs : List Bool) (i : ℕ) (x y : Call) (a : Answer) → Story m₀ (map entry_of (take i cs)) (map entry_of (take i ds)) rs m hs → i < length cs → i < length ds → drop i ds ≡ drop i cs → x ≡ get_or ds i x → a ≡ answered m hs (entry_of x) → n ≡ stepped m hs (entry_of x) → gs ≡ held_after m hs (entry_of x) → entry_of y ≡ lists_after m (entry_of x) → us ≡ rs ++ a ∷ [] → Story m₀ (map entry_of (take (i + 1) cs)) (map entry_of (take (i + 1) (set ds i y))) us n gs
 loop_more m₀ cs ds rs us m n hs gs i x y a T h l e v ea en eg ey eu =
     let T' = story_more m₀ (map entry_of (take i cs)) (map entry_of (take i ds)) rs m hs (entry_of x) (entry_of y) a n gs T ea en eg ey in
-    let ec : map entry_of (take (i + 1) cs) ≡ map entry_of (take i cs) ++ entry_of x ∷ [] = map_more entry_of cs i x h ∙ ap (λ (z : Call). map entry_of (take i cs) ++ entry_of z ∷ []) (same_call cs ds i x h l e v) in
+    let ec : map entry_of (take (i + 1) cs) ≡ map entry_of (take i cs) ++ entry_of x ∷ [] = rw (same_call cs ds i x h l e v) at (map_more entry_of cs i x h) in
     let ed : map entry_of (take (i + 1) (set ds i y)) ≡ map entry_of (take i ds) ++ entry_of y ∷ [] = ap (map entry_of) (take_more_set ds i y l) ∙ map_push entry_of (take i ds) y in
     rw (ec, ed, eu) T'
 

@@ -6,10 +6,8 @@ use Rattle.shelf.specs.Models.{Model}
 use Rattle.admission.specs.declared.plan.Step.{Step}
 use Rattle.admission.specs.Tables.{Table, plan_at}
 use Rattle.schedule.specs.Batches.{MayRelease, task_at}
-use Rattle.schedule.specs.Jobs as theory
-use Rattle.schedule.specs.Jobs.{MachineRun, MachineReleased, released, resting, begun, is_at_rest}
+use Rattle.schedule.specs.Jobs.{MachineReleased, released, begun, is_at_rest}
 use Rattle.controller.specs.declared.job.Job.{Job}
-use Rattle.controller.specs.Turns.{pending_in}
 use Rattle.controller.specs.Choices.{no_job, pending_at}
 use Rattle.controller.specs.Machines.{Batch, spaced, started_job, with_release}
 use Rattle.runs.specs.Ledger.{Booked, Book, left_of, release_of}
@@ -101,7 +99,7 @@ module _ (model : Model) (table : Table) (book : Book) (batch : Batch) (sound : 
         at_rest = rest_is (view_at table batch place) resting_here;
         spaced = spaced_may (task_at table.tasks place).period batch.clock place book.jobs (release_of place book.jobs) refl apart_booked;
         clock_is = refl;
-        releases_are = rw self (ap (λ (c : ℕ). c ∷ releases_at place book.jobs) B.clock_is);
+        releases_are = rw (self, B.clock_is) refl;
         job_is = view_here;
         last_is = refl;
         readings_same = λ o. refl;
@@ -121,15 +119,15 @@ module _ (model : Model) (table : Table) (book : Book) (batch : Batch) (sound : 
         left_is = λ a l.
             each_place place (λ b. b < length table.tasks → left_of b booked.jobs ≡ left_in' (view_at table next b))
             (λ _. rw self (sym (left_begun plan)) ∙ ap left_in' (sym view_here))
-            (λ b d i. left_new b d ∙ B.left_is b i ∙ ap left_in' (sym (view_other b d))) a l;
+            (λ b d i. rw (left_new b d, job_other b d) (B.left_is b i)) a l;
         pending_is = λ a l.
             each_place place (λ b. b < length table.tasks → pending_at next.jobs b ≡ not (is_at_rest (view_at table next b)))
             (λ _. rw (job_here, started plan) (started_shown plan))
             (λ b d i. rw (job_other b d) (B.pending_is b i)) a l;
         released_is = λ a l.
             each_place place (λ b. b < length table.tasks → (get_or next.jobs b no_job).released ≡ release_of b booked.jobs)
-            (λ _. ap (λ (j : Job). j.released) job_here ∙ ap (λ (c : ℕ). Some c) (sym B.clock_is) ∙ sym (rw self refl))
-            (λ b d i. ap (λ (j : Job). j.released) (job_other b d) ∙ B.released_is b i ∙ sym (release_new b d)) a l;
+            (λ _. rw (job_here, self, B.clock_is) refl)
+            (λ b d i. rw (job_other b d, release_new b d) (B.released_is b i)) a l;
         latest = (done_is model table book batch sound B place there ∙ resting_here, B.latest);
         placed = (there, B.placed);
         past = (omega arith, B.past);

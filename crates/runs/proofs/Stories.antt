@@ -1,11 +1,11 @@
 -- A list of calls, and its law by one induction along it.
-use Rattle.std.proofs.Common.{◌≡◌, ℕ, zero, suc, Bool, List, [], ◌∷◌, ◌++◌, take, sym, refl, ap, ◌∙◌}
+use Rattle.std.proofs.Common.{◌≡◌, ℕ, zero, suc, Bool, List, [], ◌∷◌, ◌++◌, take, sym, refl}
 use Rattle.shelf.specs.Models.{Model}
 use Rattle.controller.specs.Machines.{Machine, new_machine}
 use Rattle.runs.specs.declared.calls.Answer.{Answer}
 use Rattle.runs.specs.Entries.{Entry, answered, stepped, held_after, lists_after, answered_all, stepped_all, held_all, lists_all}
 use Rattle.runs.specs.Ledger.{Ledger, start, feed}
-use Rattle.runs.specs.Laws.{Law, after, written_by, written_all, TokensKept, RunLaw}
+use Rattle.runs.specs.Laws.{Law, after, written_all, TokensKept, RunLaw}
 use Rattle.runs.proofs.Agree.{Agrees}
 use Rattle.runs.proofs.Keeping.{kept, tokens_kept}
 use Rattle.runs.proofs.Steps.{start_agrees, step}

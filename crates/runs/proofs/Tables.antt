@@ -9,7 +9,7 @@ use Rattle.admission.specs.declared.plan.Rule.{Rule}
 use Rattle.admission.specs.declared.plan.Rule.TheVariants.{RateMonotonic, DeadlineMonotonic, EarliestDeadlineFirst}
 use Rattle.admission.specs.declared.plan.AdoptedTask.{AdoptedTask}
 use Rattle.admission.specs.declared.refusal.Refusal.TheVariants.{TaskCount, PeriodOrDeadline, SegmentRange, KindOrSize, AccessObject}
-use Rattle.admission.specs.Lengths.{attempt_ticks_of, attempt_of, cost, longest, owned, longest_attempt_of}
+use Rattle.admission.specs.Lengths.{attempt_of, cost, longest, owned, longest_attempt_of}
 use Rattle.admission.specs.Tables.{Table, empty_table, goes_by_rank, no_task, no_segment, step_of, plan_at, plans_of_tasks, adopted_tasks_of}
 use Rattle.admission.specs.Limits.{SegmentLimits, TableLimits, AdoptedLimits}
 use Rattle.admission.specs.Tests.{Ranked}
@@ -62,8 +62,8 @@ total_cost : (xs : List Segment) → total (map step_of xs) ≡ cost xs
 total_cost [] = refl
 total_cost (s ∷ ss) =
     elim (cases_Bool (eqb s.kind 0)) [
-      | inl e ↦ rw e (ap (λ (n : ℕ). s.size + n) (total_cost ss))
-      | inr e ↦ rw e (ap (λ (n : ℕ). attempt_ticks_of s.size + n) (total_cost ss))
+      | inl e ↦ rw (e, total_cost ss) refl
+      | inr e ↦ rw (e, total_cost ss) refl
     ]
 
 longest_of : (segments : List Segment) (tasks : List Task) (a : ℕ) → a < length tasks → longest (owned segments (get_or tasks a no_task)) ≤ longest_attempt_of segments tasks

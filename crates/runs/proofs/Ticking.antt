@@ -9,8 +9,7 @@ use Rattle.admission.specs.declared.plan.Rule.TheVariants.{RateMonotonic, Deadli
 use Rattle.admission.specs.declared.plan.Step.{Step}
 use Rattle.admission.specs.Tables.{Table, goes_by_rank, plan_at}
 use Rattle.schedule.specs.Batches.{order_of, released_at, MostUrgent, preemption}
-use Rattle.schedule.specs.Jobs as theory
-use Rattle.schedule.specs.Jobs.{MachineRun, MachineTicked, MachineIdled, ticked, idled, resting, is_at_rest, needs, batch_of, after_tick, in_attempt, bit}
+use Rattle.schedule.specs.Jobs.{MachineTicked, ticked, idled, is_at_rest, needs, batch_of, in_attempt}
 use Rattle.schedule.proofs.Records.{needs_some, needs_none}
 use Rattle.controller.specs.declared.job.Job.{Job}
 use Rattle.controller.specs.declared.job.JobState.{JobState}
@@ -189,7 +188,7 @@ module _ (model : Model) (table : Table) (book : Book) (batch : Batch) (sound : 
       left = left_after t.event (left_of k book.jobs)
 
       left_is : left ≡ left_in' (view_at table next k)
-      left_is = ap (left_after t.event) (B.left_is k there) ∙ T.left ∙ ap left_in' (sym view_here)
+      left_is = rw (B.left_is k there, job_here) T.left
 
       done_left : is_done left ≡ is_at_rest (view_at table next k)
       done_left = ap is_done left_is ∙ done_rest (view_at table next k)
@@ -232,15 +231,15 @@ module _ (model : Model) (table : Table) (book : Book) (batch : Batch) (sound : 
             left_is = λ a l.
                 each_place k (λ b. b < n → left_of b worked.jobs ≡ left_in' (view_at table next b))
                 (λ _. left_here k left book.jobs release.0 release.1 ∙ left_is)
-                (λ b d i. left_other k left b book.jobs d ∙ B.left_is b i ∙ ap left_in' (sym (view_other b d))) a l;
+                (λ b d i. rw (left_other k left b book.jobs d, job_other b d) (B.left_is b i)) a l;
             pending_is = λ a l.
                 each_place k (λ b. b < n → pending_at next.jobs b ≡ not (is_at_rest (view_at table next b)))
                 (λ _. pending_here)
                 (λ b d i. rw (job_other b d) (B.pending_is b i)) a l;
             released_is = λ a l.
                 each_place k (λ b. b < n → (get_or next.jobs b no_job).released ≡ release_of b worked.jobs)
-                (λ i. ap (λ (j : Job). j.released) job_here ∙ T.released ∙ B.released_is k i ∙ sym (release_kept k left k book.jobs))
-                (λ b d i. ap (λ (j : Job). j.released) (job_other b d) ∙ B.released_is b i ∙ sym (release_kept k left b book.jobs)) a l;
+                (λ i. rw (job_here, T.released, release_kept k left k book.jobs) (B.released_is k i))
+                (λ b d i. rw (job_other b d, release_kept k left b book.jobs) (B.released_is b i)) a l;
             latest = latest_kept k left book.jobs B.latest;
             placed = each_kept (λ a r. a < n) k left book.jobs B.placed;
             past = each_kept (λ a r. r ≤ book.clock + 1) k left book.jobs (each_more (λ job. job.release ≤ book.clock) (λ job. job.release ≤ book.clock + 1) book.jobs (λ job h. omega arith) B.past);

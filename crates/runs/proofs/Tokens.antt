@@ -1,5 +1,5 @@
 -- The tokens held, as the list of which are good.
-use Rattle.std.proofs.Common.{◌≡◌, ℕ, zero, suc, ◌+◌, ◌<◌, Bool, true, false, cond, ltb, List, [], ◌∷◌, ◌++◌, map, length, get_or, take, drop, sym, refl, ap, ◌∙◌, arith}
+use Rattle.std.proofs.Common.{◌≡◌, ℕ, zero, suc, ◌+◌, ◌<◌, Bool, true, false, cond, ltb, List, [], ◌∷◌, ◌++◌, length, get_or, take, drop, sym, refl, ap, ◌∙◌, arith}
 use Rattle.std.proofs.lemmas.Bool.{lt-ltb}
 use Rattle.std.proofs.lemmas.List.{map_push, map-append, take-map, drop-map, length-map}
 use Rattle.controller.specs.declared.token.BatchToken.{BatchToken}
@@ -10,10 +10,7 @@ use Rattle.runs.specs.Entries.{goods, good_in, is_good, without}
 pub token_gone : (ts us : List BatchToken) (i : ℕ) → i < length ts → us ≡ take i ts ++ drop (i + 1) ts → goods us ≡ cond (ltb i (length (goods ts))) (without (goods ts) i) (goods ts)
 token_gone ts us i h e =
     let there : ltb i (length (goods ts)) ≡ true = lt-ltb i (length (goods ts)) (omega (arith, length-map ts is_good)) in
-    rw there
-    (ap goods e ∙ map-append is_good (take i ts) (drop (i + 1) ts)
-    ∙ ap (λ (xs : List Bool). xs ++ map is_good (drop (i + 1) ts)) (sym (take-map is_good i ts))
-    ∙ ap (λ (xs : List Bool). take i (goods ts) ++ xs) (sym (drop-map is_good (i + 1) ts)))
+    rw (there, e, take-map is_good i ts, drop-map is_good (i + 1) ts) (map-append is_good (take i ts) (drop (i + 1) ts))
 
 -- how many are good: with one more, and without one
 pub good_push : (hs : List Bool) (good : Bool) → good_in (hs ++ good ∷ []) ≡ good_in hs + cond good 1 0
@@ -42,6 +39,4 @@ closed_more m hs false = ap (λ (n : ℕ). closed m (ltb 0 n)) (sym (good_push h
 -- one token of those left is handed in
 pub finish_more : (m n : Machine) (ts us : List BatchToken) (t : BatchToken) → ts ≡ us ++ t ∷ [] → n ≡ closed m t.good → closed n (ltb 0 (good_in (goods us))) ≡ closed m (ltb 0 (good_in (goods ts)))
 finish_more m n ts us t e f =
-    ap (λ (x : Machine). closed x (ltb 0 (good_in (goods us)))) f
-    ∙ closed_more m (goods us) t.good
-    ∙ ap (λ (hs : List Bool). closed m (ltb 0 (good_in hs))) (sym (ap goods e ∙ map_push is_good us t))
+    rw (f, e, map_push is_good us t) (closed_more m (goods us) t.good)
