@@ -1,12 +1,16 @@
 -- The jobs of a batch as the ledger lists them, place by place.
-use Rattle.std.proofs.Common.{◌≡◌, ℕ, zero, suc, ◌+◌, ◌<◌, ◌≤◌, true, false, cond, not, eqb, List, [], ◌∷◌, length, Some, None, Option, unwrap_or, sym, refl, ap, ◌∙◌, inl, inr, arith}
-use Rattle.std.proofs.lemmas.Bool.{cases_Bool, cases_eq, both_ways, eq-eqb, ne_eqb, eqb-true, eqb-false, and_right}
+use Rattle.std.proofs.Common.{◌≡◌, ℕ, zero, suc, ◌+◌, ◌<◌, ◌≤◌, true, false, cond, not, eqb, List, [], ◌∷◌, length, Some, None, Option, unwrap_or, sym, refl, ap, ◌∙◌, subst, inl, inr, arith}
+use Rattle.std.proofs.lemmas.Bool.{cases_Bool, cases_eq, eq-eqb, ne_eqb, eqb-true, eqb-false, and_right}
 use Rattle.admission.specs.declared.plan.Step.{Step}
 use Rattle.admission.specs.Search.{sum_below}
 use Rattle.admission.proofs.Ranges.{sum_add, sum_zero}
 use Rattle.schedule.specs.Batches.{newest, preemption}
 use Rattle.runs.specs.Ledger.{Booked, is_done, left_of, release_of, with_left, finished_in, unfinished, preempts}
 use Rattle.runs.specs.Laws.{EachJob}
+
+-- a fact of every place, from one and the others
+pub each_place : (place : ℕ) (P : ℕ → Type 0) → P place → ((b : ℕ) → (b ≡ place → ⊥) → P b) → (b : ℕ) → P b
+each_place place P here other b = elim (cases_eq b place) [ inl e ↦ subst P (sym e) here | inr d ↦ other b d ]
 
 -- the releases of a place, newest first
 abbrev pub releases_at : ℕ → List Booked → List ℕ
@@ -23,13 +27,13 @@ pub no_release : (place : ℕ) (jobs : List Booked) → release_of place jobs �
 no_release place [] h = refl
 no_release place (job ∷ jobs) h =
     elim (cases_Bool (eqb job.place place)) [
-      | inl e ↦ absurd (let g : Some job.release ≡ None = rw e at h in let z : ◌≡◌ {A = ℕ} 0 1 = cc in omega arith)
+      | inl e ↦ (let g : Some job.release ≡ None = rw e at h in cc)
       | inr e ↦ rw e (no_release place jobs (rw e at h))
     ]
 
 -- a job with something left was released
 pub left_released : (place : ℕ) (jobs : List Booked) → is_done (left_of place jobs) ≡ false → (r : ℕ) × (release_of place jobs ≡ Some r)
-left_released place [] h = absurd (both_ways true h refl)
+left_released place [] h = cc
 left_released place (job ∷ jobs) h =
     elim (cases_Bool (eqb job.place place)) [
       | inl e ↦ (job.release, rw e refl)
@@ -39,7 +43,7 @@ left_released place (job ∷ jobs) h =
 -- what a change of the latest job of a place leaves
 module _ (place : ℕ) (left : List Step) where
   pub left_here : (jobs : List Booked) (r : ℕ) → release_of place jobs ≡ Some r → left_of place (with_left place left jobs) ≡ left
-  left_here [] r h = absurd (let z : ◌≡◌ {A = ℕ} 0 1 = cc in omega arith)
+  left_here [] r h = cc
   left_here (job ∷ jobs) r h =
       elim (cases_Bool (eqb job.place place)) [
         | inl e ↦ rw (e, e) refl
@@ -53,7 +57,7 @@ module _ (place : ℕ) (left : List Step) where
         | inl e ↦
             let n : eqb job.place b ≡ false = ne_eqb job.place b (λ i. d (sym i ∙ eqb-true job.place place e)) in
             rw (e, n) refl
-        | inr e ↦ rw e (ap (λ (x : List Step). cond (eqb job.place b) job.left x) (left_other b jobs d))
+        | inr e ↦ rw (e, left_other b jobs d) refl
       ]
 
   pub releases_kept : (b : ℕ) (jobs : List Booked) → releases_at b (with_left place left jobs) ≡ releases_at b jobs
@@ -61,7 +65,7 @@ module _ (place : ℕ) (left : List Step) where
   releases_kept b (job ∷ jobs) =
       elim (cases_Bool (eqb job.place place)) [
         | inl e ↦ rw e refl
-        | inr e ↦ rw e (ap (λ (x : List ℕ). cond (eqb job.place b) (job.release ∷ x) x) (releases_kept b jobs))
+        | inr e ↦ rw (e, releases_kept b jobs) refl
       ]
 
   pub release_kept : (b : ℕ) (jobs : List Booked) → release_of b (with_left place left jobs) ≡ release_of b jobs
@@ -69,17 +73,17 @@ module _ (place : ℕ) (left : List Step) where
   release_kept b (job ∷ jobs) =
       elim (cases_Bool (eqb job.place place)) [
         | inl e ↦ rw e refl
-        | inr e ↦ rw e (ap (λ (x : Option ℕ). cond (eqb job.place b) (Some job.release) x) (release_kept b jobs))
+        | inr e ↦ rw (e, release_kept b jobs) refl
       ]
 
   pub length_kept : (jobs : List Booked) → length (with_left place left jobs) ≡ length jobs
   length_kept [] = refl
   length_kept (job ∷ jobs) =
-      elim (cases_Bool (eqb job.place place)) [ inl e ↦ rw e refl | inr e ↦ rw e (ap suc (length_kept jobs)) ]
+      elim (cases_Bool (eqb job.place place)) [ inl e ↦ rw e refl | inr e ↦ rw (e, length_kept jobs) refl ]
 
   -- a pending job that has so much left afterwards has finished or not
   pub finished_more : (jobs : List Booked) → is_done (left_of place jobs) ≡ false → finished_in (with_left place left jobs) ≡ finished_in jobs + cond (is_done left) 1 0
-  finished_more [] h = absurd (both_ways true h refl)
+  finished_more [] h = cc
   finished_more (job ∷ jobs) h =
       elim (cases_Bool (eqb job.place place)) [
         | inl e ↦ let n : is_done job.left ≡ false = rw e at h in rw (e, n) (omega arith)
@@ -88,7 +92,7 @@ module _ (place : ℕ) (left : List Step) where
 
   -- the job that worked is the latest of its place
   pub unfinished_here : (jobs : List Booked) (r : ℕ) → release_of place jobs ≡ Some r → unfinished place r (with_left place left jobs) ≡ not (is_done left)
-  unfinished_here [] r h = absurd (let z : ◌≡◌ {A = ℕ} 0 1 = cc in omega arith)
+  unfinished_here [] r h = cc
   unfinished_here (job ∷ jobs) r h =
       elim (cases_Bool (eqb job.place place)) [
         | inl e ↦
@@ -120,7 +124,7 @@ each_more Fact Other [] f h = tt
 each_more Fact Other (job ∷ jobs) f h = (f job h.0, each_more Fact Other jobs f h.1)
 
 pub each_release : (most place : ℕ) (jobs : List Booked) → EachJob (λ job. job.release ≤ most) jobs → (r : ℕ) → release_of place jobs ≡ Some r → r ≤ most
-each_release most place [] h r e = absurd (let z : ◌≡◌ {A = ℕ} 0 1 = cc in omega arith)
+each_release most place [] h r e = cc
 each_release most place (job ∷ jobs) h r e =
     elim (cases_Bool (eqb job.place place)) [
       | inl i ↦ let s : job.release ≡ r = (let g : Some job.release ≡ Some r = rw i at e in cc) in omega (arith, h.0)

@@ -1,6 +1,6 @@
 -- What holds of a batch wherever ledger and controller agree: deadlines are kept, retries and preemptions bounded.
-use Rattle.std.proofs.Common.{◌≡◌, ℕ, zero, suc, ◌+◌, ◌*◌, ◌<◌, ◌≤◌, Bool, true, false, cond, not, eqb, List, [], ◌∷◌, length, Some, None, Option, unwrap_or, sym, refl, ap, ◌∙◌, subst, inl, inr, arith}
-use Rattle.std.proofs.lemmas.Bool.{cases_Bool, both_ways, eq-eqb, eqb-true}
+use Rattle.std.proofs.Common.{◌≡◌, ℕ, zero, suc, ◌+◌, ◌*◌, ◌<◌, ◌≤◌, Bool, true, false, cond, not, eqb, List, [], ◌∷◌, length, Some, None, Option, unwrap_or, sym, refl, ap, ◌∙◌, inl, inr, arith}
+use Rattle.std.proofs.lemmas.Bool.{cases_Bool, eq-eqb, eqb-true}
 use Rattle.shelf.specs.Models.{Model}
 use Rattle.admission.specs.Search.{sum_below, count_below}
 use Rattle.admission.specs.Tables.{Table, plan_at}
@@ -35,7 +35,7 @@ length_total (job ∷ jobs) = omega (arith, length_total jobs)
 
 pending_total : (jobs : List Booked) → pending_in jobs ≡ total_by waits jobs
 pending_total [] = refl
-pending_total (job ∷ jobs) = ap (λ (n : ℕ). cond (is_done job.left) 0 1 + n) (pending_total jobs)
+pending_total (job ∷ jobs) = rw (pending_total jobs) refl
 
 releases_total : (place : ℕ) (jobs : List Booked) → length (releases_at place jobs) ≡ total_at each place jobs
 releases_total place [] = refl
@@ -49,19 +49,19 @@ none_waits place (job ∷ jobs) h d =
     elim (cases_Bool (eqb job.place place)) [
       | inl e ↦
           let f : is_done job.left ≡ true = rw e at d in
-          let g : is_done (left_of place jobs) ≡ true = subst (λ (x : ℕ). is_done (left_of x jobs) ≡ true) (eqb-true job.place place e) h.0 in
+          let g : is_done (left_of place jobs) ≡ true = rw (eqb-true job.place place e) at h.0 in
           rw (e, f) (omega (arith, none_waits place jobs h.1 g))
       | inr e ↦ rw e (omega (arith, none_waits place jobs h.1 (rw e at d)))
     ]
 
 -- of any other one is, the latest
 one_waits : (place : ℕ) (jobs : List Booked) → Latest jobs → is_done (left_of place jobs) ≡ false → total_at waits place jobs ≡ 1
-one_waits place [] h d = absurd (both_ways true d refl)
+one_waits place [] h d = cc
 one_waits place (job ∷ jobs) h d =
     elim (cases_Bool (eqb job.place place)) [
       | inl e ↦
           let f : is_done job.left ≡ false = rw e at d in
-          let g : is_done (left_of place jobs) ≡ true = subst (λ (x : ℕ). is_done (left_of x jobs) ≡ true) (eqb-true job.place place e) h.0 in
+          let g : is_done (left_of place jobs) ≡ true = rw (eqb-true job.place place e) at h.0 in
           rw (e, f) (omega (arith, none_waits place jobs h.1 g))
       | inr e ↦ rw e (omega (arith, one_waits place jobs h.1 (rw e at d)))
     ]
@@ -105,7 +105,7 @@ module _ (model : Model) (table : Table) (book : Book) (batch : Batch) (sound : 
         (λ b. rw yes at (f job.place job.release p.0 (rw yes refl) b)),
         all_in_time jobs h.1 p.1 (λ a r l e b.
             elim (cases_Bool (eqb job.place a)) [
-              | inl i ↦ subst (λ (x : ℕ). is_done (left_of x jobs) ≡ true) (eqb-true job.place a i) h.0
+              | inl i ↦ rw (eqb-true job.place a i) at h.0
               | inr i ↦ rw i at (f a r l (rw i e) b)
             ]),
       )
@@ -146,10 +146,10 @@ module _ (model : Model) (table : Table) (book : Book) (batch : Batch) (sound : 
       elim (cases_Bool (is_done (left_of a book.jobs))) [
         | inl d ↦
             let q : pending_at batch.jobs a ≡ false = B.pending_is a l ∙ ap not (sym (done_is a l) ∙ d) in
-            none_waits a book.jobs B.latest d ∙ sym (ap (λ (x : Bool). cond x 1 0) q)
+            rw q (none_waits a book.jobs B.latest d)
         | inr d ↦
             let q : pending_at batch.jobs a ≡ true = B.pending_is a l ∙ ap not (sym (done_is a l) ∙ d) in
-            one_waits a book.jobs B.latest d ∙ sym (ap (λ (x : Bool). cond x 1 0) q)
+            rw q (one_waits a book.jobs B.latest d)
       ])
 
   -- the sums that close answers are the ledger's
@@ -172,9 +172,9 @@ book_kept model table hs (Some book) (Some batch) sound B = (batch_kept model ta
 pub kept : (L : Ledger) (m : Machine) (hs : List Bool) → Agrees L m hs → Kept L
 kept L m hs A =
     let b = book_kept m.model m.table hs A.book m.batch A.sound A.agrees in
-    subst (λ (K : Ledger). Kept K) (sym A.is) (record { meets = A.sound.admitted; batch = b.0 })
+    rw A.is (record { meets = A.sound.admitted; batch = b.0 })
 
 pub tokens_kept : (L : Ledger) (m : Machine) (hs : List Bool) → Agrees L m hs → TokensKept L
 tokens_kept L m hs A =
     let b = book_kept m.model m.table hs A.book m.batch A.sound A.agrees in
-    subst (λ (K : Ledger). TokensKept K) (sym A.is) b.1
+    rw A.is b.1

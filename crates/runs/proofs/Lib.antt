@@ -11,4 +11,3 @@ pub mod Ticking
 pub mod Steps
 pub mod Stories
 pub mod Loops
-pub mod Handing

@@ -1,20 +1,18 @@
 -- A release that is granted: ledger and controller agree again.
-use Rattle.std.proofs.Common.{◌≡◌, ℕ, ◌+◌, ◌<◌, ◌≤◌, Bool, true, false, cond, not, eqb, List, ◌∷◌, length, get_or, Some, None, Option, unwrap_or, sym, refl, ap, ◌∙◌, subst, inl, inr, arith}
+use Rattle.std.proofs.Common.{◌≡◌, ℕ, ◌+◌, ◌<◌, ◌≤◌, Bool, true, false, cond, not, eqb, List, ◌∷◌, length, get_or, Some, None, Option, unwrap_or, sym, refl, ap, ◌∙◌, inl, inr, arith}
 use Rattle.std.proofs.lemmas.List.{length-set, get_or-set_same, get_or-set_other}
-use Rattle.std.proofs.lemmas.Bool.{cases_eq, eq-eqb, ne_eqb, leb-true, not-false}
+use Rattle.std.proofs.lemmas.Bool.{eq-eqb, ne_eqb, leb-true, not-false}
 use Rattle.shelf.specs.Models.{Model}
 use Rattle.admission.specs.declared.plan.Step.{Step}
 use Rattle.admission.specs.Tables.{Table, plan_at}
 use Rattle.schedule.specs.Batches.{MayRelease, task_at}
-use Rattle.schedule.specs.Jobs as theory
-use Rattle.schedule.specs.Jobs.{MachineRun, MachineReleased, released, resting, begun, is_at_rest}
+use Rattle.schedule.specs.Jobs.{MachineReleased, released, begun, is_at_rest}
 use Rattle.controller.specs.declared.job.Job.{Job}
-use Rattle.controller.specs.Turns.{pending_in}
 use Rattle.controller.specs.Choices.{no_job, pending_at}
 use Rattle.controller.specs.Machines.{Batch, spaced, started_job, with_release}
 use Rattle.runs.specs.Ledger.{Booked, Book, left_of, release_of}
 use Rattle.runs.proofs.Views.{view_of, left_in', left_begun, rest_is, started, started_shown}
-use Rattle.runs.proofs.Books.{releases_at, newest_release, no_release, last_of, unfinished_new}
+use Rattle.runs.proofs.Books.{each_place, releases_at, newest_release, no_release, last_of, unfinished_new}
 use Rattle.runs.proofs.Tables.{TableSound}
 use Rattle.runs.proofs.Agree.{view_at, seen_by, most, BatchAgrees}
 use Rattle.runs.proofs.Keeping.{done_is, few_releases}
@@ -85,10 +83,6 @@ module _ (model : Model) (table : Table) (book : Book) (batch : Batch) (sound : 
   apart_booked : spaced (release_of place book.jobs) (task_at table.tasks place).period batch.clock ≡ true
   apart_booked = ap (λ (o : Option ℕ). spaced o (task_at table.tasks place).period batch.clock) (sym (B.released_is place there)) ∙ apart
 
-  -- a fact of every place, from the new one and the others
-  each_place : (P : ℕ → Type 0) → P place → ((b : ℕ) → (b ≡ place → ⊥) → P b) → (b : ℕ) → P b
-  each_place P here other b = elim (cases_eq b place) [ inl e ↦ subst P (sym e) here | inr d ↦ other b d ]
-
   left_new : (b : ℕ) → (b ≡ place → ⊥) → left_of b booked.jobs ≡ left_of b book.jobs
   left_new b d = rw (ne_eqb place b (λ e. d (sym e))) refl
 
@@ -105,7 +99,7 @@ module _ (model : Model) (table : Table) (book : Book) (batch : Batch) (sound : 
         at_rest = rest_is (view_at table batch place) resting_here;
         spaced = spaced_may (task_at table.tasks place).period batch.clock place book.jobs (release_of place book.jobs) refl apart_booked;
         clock_is = refl;
-        releases_are = rw self (ap (λ (c : ℕ). c ∷ releases_at place book.jobs) B.clock_is);
+        releases_are = rw (self, B.clock_is) refl;
         job_is = view_here;
         last_is = refl;
         readings_same = λ o. refl;
@@ -123,22 +117,22 @@ module _ (model : Model) (table : Table) (book : Book) (batch : Batch) (sound : 
         early = B.early;
         clock_is = B.clock_is;
         left_is = λ a l.
-            each_place (λ b. b < length table.tasks → left_of b booked.jobs ≡ left_in' (view_at table next b))
+            each_place place (λ b. b < length table.tasks → left_of b booked.jobs ≡ left_in' (view_at table next b))
             (λ _. rw self (sym (left_begun plan)) ∙ ap left_in' (sym view_here))
-            (λ b d i. left_new b d ∙ B.left_is b i ∙ ap left_in' (sym (view_other b d))) a l;
+            (λ b d i. rw (left_new b d, job_other b d) (B.left_is b i)) a l;
         pending_is = λ a l.
-            each_place (λ b. b < length table.tasks → pending_at next.jobs b ≡ not (is_at_rest (view_at table next b)))
-            (λ _. ap (λ (j : Job). pending_in j.state) job_here ∙ started_shown plan ∙ ap (λ (v : theory.Job). not (is_at_rest v)) (sym view_here))
-            (λ b d i. ap (λ (j : Job). pending_in j.state) (job_other b d) ∙ B.pending_is b i ∙ ap (λ (v : theory.Job). not (is_at_rest v)) (sym (view_other b d))) a l;
+            each_place place (λ b. b < length table.tasks → pending_at next.jobs b ≡ not (is_at_rest (view_at table next b)))
+            (λ _. rw (job_here, started plan) (started_shown plan))
+            (λ b d i. rw (job_other b d) (B.pending_is b i)) a l;
         released_is = λ a l.
-            each_place (λ b. b < length table.tasks → (get_or next.jobs b no_job).released ≡ release_of b booked.jobs)
-            (λ _. ap (λ (j : Job). j.released) job_here ∙ ap (λ (c : ℕ). Some c) (sym B.clock_is) ∙ sym (rw self refl))
-            (λ b d i. ap (λ (j : Job). j.released) (job_other b d) ∙ B.released_is b i ∙ sym (release_new b d)) a l;
+            each_place place (λ b. b < length table.tasks → (get_or next.jobs b no_job).released ≡ release_of b booked.jobs)
+            (λ _. rw (job_here, self, B.clock_is) refl)
+            (λ b d i. rw (job_other b d, release_new b d) (B.released_is b i)) a l;
         latest = (done_is model table book batch sound B place there ∙ resting_here, B.latest);
         placed = (there, B.placed);
         past = (omega arith, B.past);
         counted = λ a l.
-            each_place (λ b. b < length table.tasks → length (releases_at b booked.jobs) ≤ most (release_of b booked.jobs))
+            each_place place (λ b. b < length table.tasks → length (releases_at b booked.jobs) ≤ most (release_of b booked.jobs))
             (λ _. rw self (let k = room_for (task_at table.tasks place).period batch.clock (length (releases_at place book.jobs)) (release_of place book.jobs) (sound.periods place there) apart_booked (B.counted place there) in omega (arith, k, B.clock_is)))
             (λ b d i. rw (releases_new b d, release_new b d) (B.counted b i)) a l;
         last_is = B.last_is ∙ last_new book.before book.clock (record { place = place; release = book.clock; left = plan }) book.jobs refl B.worker;

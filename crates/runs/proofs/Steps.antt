@@ -1,13 +1,12 @@
 -- One call: its answer fits the ledger, and ledger and controller agree again.
-use Rattle.std.proofs.Common.{◌≡◌, ℕ, ◌+◌, ◌<◌, Bool, true, false, cond, not, ltb, List, [], ◌∷◌, ◌++◌, length, get_or, Some, None, Ok, Err, Option, Result, sym, refl, ap, ◌∙◌, subst, inl, inr, arith}
+use Rattle.std.proofs.Common.{◌≡◌, ℕ, ◌+◌, ◌<◌, Bool, true, false, cond, not, ltb, List, [], ◌∷◌, ◌++◌, length, get_or, Some, None, Ok, Err, Option, Result, sym, refl, ap, ◌∙◌, inl, inr, arith}
 use Rattle.std.specs.List.{slice_get}
 use Rattle.std.proofs.lemmas.List.{get_or-replicate}
 use Rattle.std.proofs.lemmas.Bool.{cases_Bool, ltb-true, ltb-false, not-true}
-use Rattle.shelf.specs.Models.{Rules, Model}
+use Rattle.shelf.specs.Models.{Model}
 use Rattle.admission.specs.declared.task.Segment.{Segment}
 use Rattle.admission.specs.declared.task.Task.{Task}
 use Rattle.admission.specs.declared.plan.Rule.{Rule}
-use Rattle.admission.specs.declared.plan.Step.{Step}
 use Rattle.admission.specs.declared.refusal.Refusal.{Refusal}
 use Rattle.admission.specs.declared.refusal.Refusal.TheVariants.{NoPlace, TooSoon, Unfinished, ClockEnd, VoidToken}
 use Rattle.admission.specs.Tables.{Table, plan_at, no_adopted_task}
@@ -15,9 +14,8 @@ use Rattle.admission.specs.Verdicts.{asked, first_no, unless, rule_of_number, ta
 use Rattle.admission.specs.Verdicts as verdicts
 use Rattle.admission.proofs.Exact.{first_no_left, first_no_right, asked_yes}
 use Rattle.schedule.specs.Jobs.{opened, is_at_rest}
-use Rattle.controller.specs.declared.job.Job.{Job}
 use Rattle.controller.specs.declared.job.Sums.{Sums}
-use Rattle.controller.specs.Turns.{Turn, pending_in, turn}
+use Rattle.controller.specs.Turns.{Turn, turn}
 use Rattle.controller.specs.Choices.{no_job, pending_at, urgency_of, chosen}
 use Rattle.controller.specs.Machines.{Batch, Machine, new_machine, fresh_batch, spaced, release_no, released_in, with_release, Tick, tick_of, choice_tick, step_tick, idle_tick, turn_tick, ticking_in, ticked_in}
 use Rattle.controller.specs.Machines as machines
@@ -26,7 +24,7 @@ use Rattle.runs.specs.declared.calls.Answer.TheVariants.{Closed, Worked, NoToken
 use Rattle.runs.specs.Entries.{Entry, adopts, opens, releases, ticks, closes, reads, demands, answered, stepped, held_after, lists_after, without, good_in, adopt_answer_of, release_answer_of, tick_answer, close_answer_of}
 use Rattle.runs.specs.Ledger.{Book, Ledger, start, fresh_book, feed, feed_tick, is_done, left_of, release_of, with_table, contents_after, after_event, working, idling}
 use Rattle.runs.specs.Laws.{Fits, written_by, close_fits, AnswerFits, TickFits}
-use Rattle.runs.proofs.Views.{view_of, left_in', Turned, ObjectsExist, objects_drop}
+use Rattle.runs.proofs.Views.{twice, Turned, objects_drop}
 use Rattle.runs.proofs.Turning.{turned}
 use Rattle.runs.proofs.Tables.{TableSound, empty_sound, verdict_taken}
 use Rattle.runs.proofs.Agree.{view_at, BatchAgrees, BookAgrees, ledger_of, Agrees}
@@ -55,7 +53,7 @@ fresh_agrees model table sound =
       run = opened (record {
         clock_is = refl;
         releases_are = λ a l. refl;
-        jobs_are = λ a l. ap (λ (j : Job). view_of (plan_at table.plans a) j) (blank a l);
+        jobs_are = λ a l. rw (blank a l) refl;
         last_is = refl;
         retries_is = refl;
         preemptions_is = refl;
@@ -63,16 +61,15 @@ fresh_agrees model table sound =
       long = refl;
       early = omega arith;
       clock_is = refl;
-      left_is = λ a l. ap (λ (j : Job). left_in' (view_of (plan_at table.plans a) j)) (sym (blank a l));
-      pending_is = λ a l.
-          ap (λ (j : Job). pending_in j.state) (blank a l) ∙ ap (λ (j : Job). not (is_at_rest (view_of (plan_at table.plans a) j))) (sym (blank a l));
-      released_is = λ a l. ap (λ (j : Job). j.released) (blank a l);
+      left_is = λ a l. rw (blank a l) refl;
+      pending_is = λ a l. rw (blank a l) refl;
+      released_is = λ a l. rw (blank a l) refl;
       latest = tt;
       placed = tt;
       past = tt;
       counted = λ a l. omega arith;
       last_is = refl;
-      worker = λ w e. absurd (let z : ◌≡◌ {A = ℕ} 0 1 = cc in omega arith);
+      worker = λ w e. cc;
       retries_is = refl;
       preemptions_is = refl;
       finished_is = refl;
@@ -144,10 +141,10 @@ module _ (model : Model) (table : Table) (hs : List Bool) (sound : TableSound mo
   close_next i true good None (Some batch) e f B = absurd B
   close_next i true good (Some book) None e f B = absurd B
   close_next i true false (Some book) (Some batch) e f B =
-      let g : good_in hs ≡ 0 + good_in (without hs i) = good_without hs i (ltb-true i (length hs) e) ∙ ap (λ (b : Bool). cond b 1 0 + good_in (without hs i)) f in
+      let g : good_in hs ≡ 0 + good_in (without hs i) = rw f at (good_without hs i (ltb-true i (length hs) e)) in
       rw e (agree (at (Some batch)) (Some book) (without hs i) sound (omega (arith, g, B.0), B.1))
   close_next i true true (Some book) (Some batch) e f B =
-      let g : good_in hs ≡ 1 + good_in (without hs i) = good_without hs i (ltb-true i (length hs) e) ∙ ap (λ (b : Bool). cond b 1 0 + good_in (without hs i)) f in
+      let g : good_in hs ≡ 1 + good_in (without hs i) = rw f at (good_without hs i (ltb-true i (length hs) e)) in
       agree (at None) None (without hs i) sound (omega (arith, g, B.0))
 
   -- release
@@ -161,15 +158,9 @@ module _ (model : Model) (table : Table) (hs : List Bool) (sound : TableSound mo
         | inl e ↦
             let l = ltb-true place (length table.tasks) e in
             let p : not (pending_at batch.jobs place) ≡ is_done (left_of place book.jobs) = ap not (B.pending_is place l) ∙ twice (is_at_rest (view_at table batch place)) ∙ sym (done_is model table book batch sound B place l) in
-            rw e (ap (λ (b : Bool). first_no (asked (spaced (get_or batch.jobs place no_job).released (get_or table.tasks place no_adopted_task).period batch.clock) TooSoon) (asked b Unfinished)) p
-            ∙ ap (λ (o : Option ℕ). first_no (asked (spaced o (get_or table.tasks place no_adopted_task).period batch.clock) TooSoon) (asked (is_done (left_of place book.jobs)) Unfinished)) (B.released_is place l)
-            ∙ ap (λ (c : ℕ). first_no (asked (spaced (release_of place book.jobs) (get_or table.tasks place no_adopted_task).period c) TooSoon) (asked (is_done (left_of place book.jobs)) Unfinished)) (sym B.clock_is))
+            rw (e, p, B.released_is place l, B.clock_is) refl
         | inr e ↦ rw e refl
       ]
-    where
-      twice : (b : Bool) → not (not b) ≡ b
-      twice true = refl
-      twice false = refl
 
   release_next : (place : ℕ) (book : Book) (batch : Batch) (no : Option Refusal) → good_in hs ≡ 1 → BatchAgrees model table book batch → release_no table batch place ≡ no
       → Agrees (feed (ledger_of (at (Some batch)) (Some book) hs) (releases place) (release_answer_of (unless no (batch.clock + (get_or table.tasks place no_adopted_task).deadline))))
@@ -189,9 +180,7 @@ module _ (model : Model) (table : Table) (hs : List Bool) (sound : TableSound mo
   release_at place (Some book) None B = absurd B
   release_at place (Some book) (Some batch) B =
       record {
-        fits =
-            ap (λ (o : Option Refusal). release_answer_of (unless o (batch.clock + (get_or table.tasks place no_adopted_task).deadline))) (no_is place book batch B.1)
-            ∙ ap (λ (c : ℕ). release_answer_of (unless (first_no (asked (ltb place (length table.tasks)) NoPlace) (first_no (asked (spaced (release_of place book.jobs) (get_or table.tasks place no_adopted_task).period book.clock) TooSoon) (asked (is_done (left_of place book.jobs)) Unfinished))) (c + (get_or table.tasks place no_adopted_task).deadline))) (sym B.1.clock_is);
+        fits = rw (no_is place book batch B.1, B.1.clock_is) refl;
         lists = refl;
         next = release_next place book batch (release_no table batch place) B.0 B.1 refl;
       }
@@ -217,17 +206,15 @@ module _ (model : Model) (table : Table) (hs : List Bool) (sound : TableSound mo
       let s = steps_of model table book batch sound B early k best in
       let here = s.1.1 in
       let rest = drop_next job.step plan s.1.0 s.0 here in
-      let now : slice_get plan job.step ≡ Some s.0 = nth_drop job.step plan ∙ ap (λ (xs : List Step). slice_get xs 0) here in
-      let later : slice_get plan (job.step + 1) ≡ slice_get s.1.0 0 = nth_drop (job.step + 1) plan ∙ ap (λ (xs : List Step). slice_get xs 0) rest in
-      let objects = subst (λ (xs : List Step). ObjectsExist model.rules.exists xs) here (objects_drop model.rules.exists job.step plan (sound.objects k best.0)) in
+      let now : slice_get plan job.step ≡ Some s.0 = rw here at (nth_drop job.step plan) in
+      let later : slice_get plan (job.step + 1) ≡ slice_get s.1.0 0 = rw rest at (nth_drop (job.step + 1) plan) in
+      let objects = rw here at (objects_drop model.rules.exists job.step plan (sound.objects k best.0)) in
       let T = turned model plan job s.0 s.1.0 best.1 here rest objects in
-      subst (λ (o : Option Step). Ticks book (step_tick model table batch k o)) (sym now)
-      (subst (λ (o : Option Step). Ticks book (turn_tick batch k (turn model job s.0 o))) (sym later)
-      (made (turn model job s.0 (slice_get s.1.0 0)) T))
+      rw (now, later) (made (turn model job s.0 (slice_get s.1.0 0)) T)
     where
       made : (t : Turn) → Turned model (plan_at table.plans k) (get_or batch.jobs k no_job) t → Ticks book (turn_tick batch k t)
       made t T =
-          let contents : contents_after t.event model (left_of k book.jobs) ≡ t.model = ap (λ (xs : List Step). contents_after t.event model xs) (B.left_is k best.0) ∙ T.contents in
+          let contents : contents_after t.event model (left_of k book.jobs) ≡ t.model = rw (B.left_is k best.0) T.contents in
           let is = ap (λ (x : Model). record { model = x; table = table; book = Some (after_event book k t.event); held = hs }) contents
           ∙ ap (λ (b : Book). record { model = t.model; table = table; book = Some b; held = hs }) (T.worked book k) in
           record {
@@ -237,7 +224,7 @@ module _ (model : Model) (table : Table) (hs : List Bool) (sound : TableSound mo
               is = is;
               model_is = contents;
               held_is = refl;
-              sound = subst (λ (r : Rules). TableSound r table) (sym T.rules) sound;
+              sound = rw T.rules sound;
               agrees = (g, work_agrees model table book batch sound B early k best t T);
             };
           }
@@ -290,4 +277,4 @@ module _ (model : Model) (table : Table) (hs : List Bool) (sound : TableSound mo
 
 pub step : (L : Ledger) (m : Machine) (hs : List Bool) (e : Entry) → Agrees L m hs → Stepping L m hs e
 step L m hs e A =
-    subst (λ (K : Ledger). Stepping K m hs e) (sym A.is) (step_at_lem m.model m.table hs A.sound e A.book m.batch A.agrees)
+    rw A.is (step_at_lem m.model m.table hs A.sound e A.book m.batch A.agrees)

@@ -1,11 +1,11 @@
 -- A list of calls, and its law by one induction along it.
-use Rattle.std.proofs.Common.{◌≡◌, ℕ, zero, suc, Bool, List, [], ◌∷◌, ◌++◌, take, sym, refl, ap, ◌∙◌, subst}
+use Rattle.std.proofs.Common.{◌≡◌, ℕ, zero, suc, Bool, List, [], ◌∷◌, ◌++◌, take, sym, refl}
 use Rattle.shelf.specs.Models.{Model}
 use Rattle.controller.specs.Machines.{Machine, new_machine}
 use Rattle.runs.specs.declared.calls.Answer.{Answer}
 use Rattle.runs.specs.Entries.{Entry, answered, stepped, held_after, lists_after, answered_all, stepped_all, held_all, lists_all}
 use Rattle.runs.specs.Ledger.{Ledger, start, feed}
-use Rattle.runs.specs.Laws.{Law, after, written_by, written_all, TokensKept, RunLaw}
+use Rattle.runs.specs.Laws.{Law, after, written_all, TokensKept, RunLaw}
 use Rattle.runs.proofs.Agree.{Agrees}
 use Rattle.runs.proofs.Keeping.{kept, tokens_kept}
 use Rattle.runs.proofs.Steps.{start_agrees, step}
@@ -33,15 +33,14 @@ lists_are : (L : Ledger) (m : Machine) (hs : List Bool) (es : List Entry) → Ag
 lists_are L m hs [] A = refl
 lists_are L m hs (e ∷ es) A =
     let P = step L m hs e A in
-    ap (λ (x : Entry). x ∷ lists_all (stepped m hs e) (held_after m hs e) es) P.lists
-    ∙ ap (λ (xs : List Entry). written_by L e ∷ xs) (lists_are (feed L e (answered m hs e)) (stepped m hs e) (held_after m hs e) es P.next)
+    rw (P.lists, lists_are (feed L e (answered m hs e)) (stepped m hs e) (held_after m hs e) es P.next) refl
 
 -- the first answers are those to the first calls
 answers_take : (m : Machine) (hs : List Bool) (es : List Entry) (k : ℕ) → answered_all m hs (take k es) ≡ take k (answered_all m hs es)
 answers_take m hs es zero = refl
 answers_take m hs [] (suc k) = refl
 answers_take m hs (e ∷ es) (suc k) =
-    ap (λ (rs : List Answer). answered m hs e ∷ rs) (answers_take (stepped m hs e) (held_after m hs e) es k)
+    rw (answers_take (stepped m hs e) (held_after m hs e) es k) refl
 
 -- what a loop over the calls has done: nothing but the calls
 pub record Story (m₀ : Machine) (es ds : List Entry) (rs : List Answer) (m : Machine) (hs : List Bool) : Type 0 where
@@ -54,7 +53,7 @@ pub record Story (m₀ : Machine) (es ds : List Entry) (rs : List Answer) (m : M
 module _ (e : Entry) where
   answered_more : (m : Machine) (hs : List Bool) (es : List Entry) → answered_all m hs (es ++ e ∷ []) ≡ answered_all m hs es ++ answered (stepped_all m hs es) (held_all m hs es) e ∷ []
   answered_more m hs [] = refl
-  answered_more m hs (d ∷ es) = ap (λ (rs : List Answer). answered m hs d ∷ rs) (answered_more (stepped m hs d) (held_after m hs d) es)
+  answered_more m hs (d ∷ es) = rw (answered_more (stepped m hs d) (held_after m hs d) es) refl
 
   stepped_more : (m : Machine) (hs : List Bool) (es : List Entry) → stepped_all m hs (es ++ e ∷ []) ≡ stepped (stepped_all m hs es) (held_all m hs es) e
   stepped_more m hs [] = refl
@@ -66,19 +65,16 @@ module _ (e : Entry) where
 
   lists_more : (m : Machine) (hs : List Bool) (es : List Entry) → lists_all m hs (es ++ e ∷ []) ≡ lists_all m hs es ++ lists_after (stepped_all m hs es) e ∷ []
   lists_more m hs [] = refl
-  lists_more m hs (d ∷ es) = ap (λ (xs : List Entry). lists_after m d ∷ xs) (lists_more (stepped m hs d) (held_after m hs d) es)
+  lists_more m hs (d ∷ es) = rw (lists_more (stepped m hs d) (held_after m hs d) es) refl
 
 pub story_more : (m₀ : Machine) (es ds : List Entry) (rs : List Answer) (m : Machine) (hs : List Bool) (e d : Entry) (a : Answer) (n : Machine) (gs : List Bool) → Story m₀ es ds rs m hs → a ≡ answered m hs e → n ≡ stepped m hs e → gs ≡ held_after m hs e → d ≡ lists_after m e → Story m₀ (es ++ e ∷ []) (ds ++ d ∷ []) (rs ++ a ∷ []) n gs
 story_more m₀ es ds rs m hs e d a n gs T ea en eg ed =
     record {
-      answers = ap (λ (xs : List Answer). xs ++ a ∷ []) T.answers ∙ ap (λ (x : Answer). answered_all m₀ [] es ++ x ∷ []) (ea ∙ at (λ x gs. answered x gs e)) ∙ sym (answered_more e m₀ [] es);
-      machine = en ∙ at (λ x gs. stepped x gs e) ∙ sym (stepped_more e m₀ [] es);
-      held = eg ∙ at (λ x gs. held_after x gs e) ∙ sym (held_more e m₀ [] es);
-      lists = ap (λ (xs : List Entry). xs ++ d ∷ []) T.lists ∙ ap (λ (x : Entry). lists_all m₀ [] es ++ x ∷ []) (ed ∙ at (λ x gs. lists_after x e)) ∙ sym (lists_more e m₀ [] es);
+      answers = rw (ea, T.answers, T.machine, T.held, answered_more e m₀ [] es) refl;
+      machine = rw (en, T.machine, T.held, stepped_more e m₀ [] es) refl;
+      held = rw (eg, T.machine, T.held, held_more e m₀ [] es) refl;
+      lists = rw (ed, T.lists, T.machine, lists_more e m₀ [] es) refl;
     }
-  where
-    at : {X : Type 0} (f : Machine → List Bool → X) → f m hs ≡ f (stepped_all m₀ [] es) (held_all m₀ [] es)
-    at f = ap (λ (x : Machine). f x hs) T.machine ∙ ap (f (stepped_all m₀ [] es)) T.held
 
 -- the whole promise, of the calls alone
 run_law : (model : Model) (es : List Entry) → RunLaw model es (lists_all (new_machine model) [] es) (answered_all (new_machine model) [] es) (stepped_all (new_machine model) [] es) (held_all (new_machine model) [] es)
@@ -90,12 +86,11 @@ run_law model es =
       law = lawful (start model) m [] es A;
       contents = sym B.model_is;
       throughout = λ k.
-          sym (agrees_after (start model) m [] (take k es) A).model_is
-          ∙ ap (λ (rs : List Answer). (after (start model) (take k es) rs).model) (answers_take m [] es k);
+          rw (answers_take m [] es k) at (sym (agrees_after (start model) m [] (take k es) A).model_is);
       lists = lists_are (start model) m [] es A;
       tokens = sym B.held_is;
       tokens_throughout = λ k.
-          subst (λ (rs : List Answer). TokensKept (after (start model) (take k es) rs)) (answers_take m [] es k) (tokens_after (start model) m [] (take k es) A);
+          rw (answers_take m [] es k) at (tokens_after (start model) m [] (take k es) A);
       answered_by = refl;
       left_by = refl;
       onward = λ more. lawful (after (start model) es (answered_all m [] es)) (stepped_all m [] es) (held_all m [] es) more B;
@@ -104,8 +99,4 @@ run_law model es =
 
 pub story_law : (model : Model) (es ds : List Entry) (rs : List Answer) (m : Machine) (hs : List Bool) → Story (new_machine model) es ds rs m hs → RunLaw model es ds rs m hs
 story_law model es ds rs m hs T =
-    let m₀ = new_machine model in
-    subst (λ (x : List Entry). RunLaw model es x rs m hs) (sym T.lists)
-    (subst (λ (x : List Answer). RunLaw model es (lists_all m₀ [] es) x m hs) (sym T.answers)
-    (subst (λ (x : Machine). RunLaw model es (lists_all m₀ [] es) (answered_all m₀ [] es) x hs) (sym T.machine)
-    (subst (λ (x : List Bool). RunLaw model es (lists_all m₀ [] es) (answered_all m₀ [] es) (stepped_all m₀ [] es) x) (sym T.held) (run_law model es))))
+    rw (T.lists, T.answers, T.machine, T.held) (run_law model es)

@@ -1,5 +1,5 @@
 -- A table that is taken is sound: it meets its inequality, its plans fit it, and their objects exist.
-use Rattle.std.proofs.Common.{◌≡◌, ℕ, zero, suc, ◌+◌, ◌<◌, ◌≤◌, true, false, ◌&&◌, eqb, leb, List, [], ◌∷◌, map, length, get_or, Some, None, Ok, Err, Option, sym, refl, ap, ◌∙◌, subst, inl, inr, arith}
+use Rattle.std.proofs.Common.{◌≡◌, ℕ, zero, suc, ◌+◌, ◌<◌, ◌≤◌, true, false, ◌&&◌, eqb, leb, List, [], ◌∷◌, map, length, get_or, Some, None, Ok, Err, Option, sym, refl, ap, ◌∙◌, inl, inr, arith}
 use Rattle.std.proofs.lemmas.List.{get_or-map}
 use Rattle.std.proofs.lemmas.Bool.{cases_Bool, and_parts, leb-true}
 use Rattle.shelf.specs.Models.{Rules}
@@ -8,10 +8,8 @@ use Rattle.admission.specs.declared.task.Task.{Task}
 use Rattle.admission.specs.declared.plan.Rule.{Rule}
 use Rattle.admission.specs.declared.plan.Rule.TheVariants.{RateMonotonic, DeadlineMonotonic, EarliestDeadlineFirst}
 use Rattle.admission.specs.declared.plan.AdoptedTask.{AdoptedTask}
-use Rattle.admission.specs.declared.plan.Step.{Step}
-use Rattle.admission.specs.declared.refusal.Refusal.{Refusal}
-use Rattle.admission.specs.declared.refusal.Refusal.TheVariants.{TaskCount, UnknownRule, PeriodOrDeadline, SegmentRange, KindOrSize, AccessObject}
-use Rattle.admission.specs.Lengths.{attempt_ticks_of, attempt_of, cost, longest, owned, longest_attempt_of}
+use Rattle.admission.specs.declared.refusal.Refusal.TheVariants.{TaskCount, PeriodOrDeadline, SegmentRange, KindOrSize, AccessObject}
+use Rattle.admission.specs.Lengths.{attempt_of, cost, longest, owned, longest_attempt_of}
 use Rattle.admission.specs.Tables.{Table, empty_table, goes_by_rank, no_task, no_segment, step_of, plan_at, plans_of_tasks, adopted_tasks_of}
 use Rattle.admission.specs.Limits.{SegmentLimits, TableLimits, AdoptedLimits}
 use Rattle.admission.specs.Tests.{Ranked}
@@ -64,8 +62,8 @@ total_cost : (xs : List Segment) → total (map step_of xs) ≡ cost xs
 total_cost [] = refl
 total_cost (s ∷ ss) =
     elim (cases_Bool (eqb s.kind 0)) [
-      | inl e ↦ rw e (ap (λ (n : ℕ). s.size + n) (total_cost ss))
-      | inr e ↦ rw e (ap (λ (n : ℕ). attempt_ticks_of s.size + n) (total_cost ss))
+      | inl e ↦ rw (e, total_cost ss) refl
+      | inr e ↦ rw (e, total_cost ss) refl
     ]
 
 longest_of : (segments : List Segment) (tasks : List Task) (a : ℕ) → a < length tasks → longest (owned segments (get_or tasks a no_task)) ≤ longest_attempt_of segments tasks
@@ -137,7 +135,7 @@ module _ (rules : Rules) (rule : Rule) (tasks : List Task) (segments : List Segm
         admitted = admitted_by rule refl;
         plans =
             record {
-              lengths = λ a l. subst (λ (xs : List Step). StepsFit s xs) (sym (plan_is a l)) (steps_fit s (owned segments (get_or tasks a no_task)) (owns a l) (longest_of segments tasks a (inside a l)));
+              lengths = λ a l. rw (plan_is a l) (steps_fit s (owned segments (get_or tasks a no_task)) (owns a l) (longest_of segments tasks a (inside a l)));
               costs = λ a l. omega (arith, ap total (plan_is a l), total_cost (owned segments (get_or tasks a no_task)), ap (λ (x : AdoptedTask). x.cost) (adopted_at rule segments tasks a (inside a l)));
             };
         few = omega (arith, adopted_length rule segments tasks);
@@ -145,7 +143,7 @@ module _ (rules : Rules) (rule : Rule) (tasks : List Task) (segments : List Segm
         apart = λ r. ranked rule segments tasks r;
         objects = λ a l.
             let q = segments_fine rules segments 0 tasks fit a (inside a l) in
-            subst (λ (xs : List Step). ObjectsExist rules.exists xs) (sym (plan_is a l)) (objects_of rules q.0 (owned segments (get_or tasks a no_task)) q.1);
+            rw (plan_is a l) (objects_of rules q.0 (owned segments (get_or tasks a no_task)) q.1);
         some = λ a l.
             let t = limits a (inside a l) in
             ap is_done (plan_is a l) ∙ some_steps (owned segments (get_or tasks a no_task)) (omega (arith, owned_length segments (get_or tasks a no_task) t.owns_these, t.owns_some));
@@ -158,17 +156,14 @@ pub record Taken (rules : Rules) (number : ℕ) (tasks : List Task) (segments : 
   pub is : table ≡ table_of rule tasks segments
   pub sound : TableSound rules table
 
-ok_err : {X : Type 0} (e : Refusal) (x : X) → Err e ≡ Ok x → ⊥
-ok_err e x h = let z : ◌≡◌ {A = ℕ} 0 1 = cc in omega arith
-
 under : (rules : Rules) (number : ℕ) (tasks : List Task) (segments : List Segment) (table : Table) (o : Option Rule) → length tasks ≤ 32 → rule_of_number number ≡ o → verdict_under rules tasks segments o ≡ Ok table → Taken rules number tasks segments table
-under rules number tasks segments table None few e h = absurd (ok_err UnknownRule table h)
+under rules number tasks segments table None few e h = cc
 under rules number tasks segments table (Some rule) few e h =
     let no = unless_ok (table_no rules tasks segments rule) (table_of rule tasks segments) table h in
     let is = unless_value (table_no rules tasks segments rule) (table_of rule tasks segments) table h in
     let test = test_no rule (longest_attempt_of segments tasks) (adopted_tasks_of rule segments tasks) in
     let sound = taken_sound rules rule tasks segments few (first_no_left (tasks_no rules segments 0 tasks) test no) (first_no_right (tasks_no rules segments 0 tasks) test no) in
-    record { rule = rule; known = e; is = is; sound = subst (λ (x : Table). TableSound rules x) (sym is) sound }
+    record { rule = rule; known = e; is = is; sound = rw is sound }
 
 pub verdict_taken : (rules : Rules) (number : ℕ) (tasks : List Task) (segments : List Segment) (table : Table) → verdict rules number tasks segments ≡ Ok table → Taken rules number tasks segments table
 verdict_taken rules number tasks segments table h =
@@ -176,5 +171,5 @@ verdict_taken rules number tasks segments table h =
       | inl e ↦
           let few = leb-true (length tasks) 32 (and_parts (leb 1 (length tasks)) (leb (length tasks) 32) e).1 in
           under rules number tasks segments table (rule_of_number number) few refl (rw e at h)
-      | inr e ↦ absurd (ok_err TaskCount table (rw e at h))
+      | inr e ↦ (let no : Err TaskCount ≡ Ok table = rw e at h in cc)
     ]

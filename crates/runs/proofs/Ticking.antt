@@ -1,16 +1,15 @@
 -- A tick: ledger and controller agree again, and what the tick tells fits the ledger.
-use Rattle.std.proofs.Common.{◌≡◌, ℕ, zero, suc, ◌+◌, ◌<◌, ◌≤◌, Bool, true, false, cond, not, eqb, List, [], ◌∷◌, length, get_or, drop, Some, None, Option, unwrap_or, sym, refl, ap, ◌∙◌, subst, inl, inr, arith}
+use Rattle.std.proofs.Common.{◌≡◌, ℕ, zero, suc, ◌+◌, ◌<◌, ◌≤◌, Bool, true, false, cond, not, eqb, List, [], ◌∷◌, length, get_or, drop, Some, None, Option, unwrap_or, sym, refl, ap, ◌∙◌, inl, inr, arith}
 use Rattle.std.specs.List.{slice_get}
 use Rattle.std.proofs.lemmas.List.{length-set, get_or-set_same, get_or-set_other, drop-drop}
-use Rattle.std.proofs.lemmas.Bool.{cases_Bool, cases_eq, both_ways, eq-eqb, ne_eqb, not-false}
+use Rattle.std.proofs.lemmas.Bool.{cases_Bool, cases_eq, eq-eqb, ne_eqb, not-false, not-true}
 use Rattle.shelf.specs.Models.{Model, reading_at}
 use Rattle.admission.specs.declared.plan.Rule.{Rule}
 use Rattle.admission.specs.declared.plan.Rule.TheVariants.{RateMonotonic, DeadlineMonotonic, EarliestDeadlineFirst}
 use Rattle.admission.specs.declared.plan.Step.{Step}
 use Rattle.admission.specs.Tables.{Table, goes_by_rank, plan_at}
 use Rattle.schedule.specs.Batches.{order_of, released_at, MostUrgent, preemption}
-use Rattle.schedule.specs.Jobs as theory
-use Rattle.schedule.specs.Jobs.{MachineRun, MachineTicked, MachineIdled, ticked, idled, resting, is_at_rest, needs, batch_of, after_tick, in_attempt, bit}
+use Rattle.schedule.specs.Jobs.{MachineTicked, ticked, idled, is_at_rest, needs, batch_of, in_attempt}
 use Rattle.schedule.proofs.Records.{needs_some, needs_none}
 use Rattle.controller.specs.declared.job.Job.{Job}
 use Rattle.controller.specs.declared.job.JobState.{JobState}
@@ -24,9 +23,9 @@ use Rattle.controller.specs.Machines.{Batch, one, is_retry_event, with_idle, wit
 use Rattle.controller.proofs.Choosing.{Best}
 use Rattle.admission.specs.Tables.{no_adopted_task}
 use Rattle.runs.specs.Ledger.{Booked, Book, is_done, left_of, release_of, left_after, retries_by, worker_at, working, idling}
-use Rattle.runs.specs.Laws.{EachJob, EventFits, WorkFits, IdleFits, TickFits}
-use Rattle.runs.proofs.Views.{in_state, view_of, left_in', done_rest, rest_is, Turned}
-use Rattle.runs.proofs.Books.{newest_release, left_released, left_here, left_other, releases_kept, release_kept, length_kept, finished_more, unfinished_here, Latest, latest_kept, each_kept, each_more, each_release, last_of, preempts_is}
+use Rattle.runs.specs.Laws.{EachJob, WorkFits, IdleFits, TickFits}
+use Rattle.runs.proofs.Views.{twice, in_state, view_of, left_in', done_rest, rest_is, Turned}
+use Rattle.runs.proofs.Books.{each_place, newest_release, left_released, left_here, left_other, releases_kept, release_kept, length_kept, finished_more, unfinished_here, Latest, latest_kept, each_kept, each_more, each_release, last_of, preempts_is}
 use Rattle.runs.proofs.Urgent.{by_rank, by_deadline}
 use Rattle.runs.proofs.Tables.{TableSound}
 use Rattle.runs.proofs.Agree.{view_at, seen_by, BatchAgrees}
@@ -40,7 +39,7 @@ all_done n (job ∷ jobs) h p f =
       (rw yes at (f job.place p.0)),
       all_done n jobs h.1 p.1 (λ a l.
           elim (cases_eq job.place a) [
-            | inl e ↦ subst (λ (x : ℕ). is_done (left_of x jobs) ≡ true) e h.0
+            | inl e ↦ rw e at h.0
             | inr d ↦ rw (ne_eqb job.place a d) at (f a l)
           ]),
     )
@@ -54,10 +53,10 @@ retries_one Idle = refl
 
 -- a pending job is in the first of the steps that are left
 pub in_steps : (state : JobState) (steps : List Step) → pending_in state ≡ true → pending_in state ≡ not (is_at_rest (in_state state steps)) → (step : Step) × ((later : List Step) × (steps ≡ step ∷ later))
-in_steps Resting steps p h = absurd (both_ways true (sym p) refl)
-in_steps (Computing left) [] p h = absurd (both_ways true h refl)
+in_steps Resting steps p h = cc
+in_steps (Computing left) [] p h = cc
 in_steps (Computing left) (step ∷ later) p h = (step, (later, refl))
-in_steps (Attempting left seen) [] p h = absurd (both_ways true h refl)
+in_steps (Attempting left seen) [] p h = cc
 in_steps (Attempting left seen) (step ∷ later) p h = (step, (later, refl))
 
 pub nth_drop : (k : ℕ) (steps : List Step) → slice_get steps k ≡ slice_get (drop k steps) 0
@@ -100,7 +99,7 @@ module _ (model : Model) (table : Table) (book : Book) (batch : Batch) (sound : 
           past = each_more (λ job. job.release ≤ book.clock) (λ job. job.release ≤ book.clock + 1) book.jobs (λ job h. omega arith) B.past;
           counted = B.counted;
           last_is = refl;
-          worker = λ w e. absurd (let z : ◌≡◌ {A = ℕ} 0 1 = cc in omega arith);
+          worker = λ w e. cc;
           retries_is = B.retries_is;
           preemptions_is = B.preemptions_is;
           finished_is = B.finished_is;
@@ -130,11 +129,7 @@ module _ (model : Model) (table : Table) (book : Book) (batch : Batch) (sound : 
     steps_of = in_steps job.state (drop job.step plan) best.1 (B.pending_is k there)
 
     not_done : is_done (left_of k book.jobs) ≡ false
-    not_done = done_is model table book batch sound B k there ∙ shown_not (is_at_rest (view_at table batch k)) (sym (B.pending_is k there) ∙ best.1)
-      where
-        shown_not : (b : Bool) → not b ≡ true → b ≡ false
-        shown_not true h = absurd (both_ways true (sym h) refl)
-        shown_not false h = refl
+    not_done = done_is model table book batch sound B k there ∙ not-true (is_at_rest (view_at table batch k)) (sym (B.pending_is k there) ∙ best.1)
 
     release : (r : ℕ) × (release_of k book.jobs ≡ Some r)
     release = left_released k book.jobs not_done
@@ -187,20 +182,16 @@ module _ (model : Model) (table : Table) (book : Book) (batch : Batch) (sound : 
       view_other b d = ap (view_of (plan_at table.plans b)) (job_other b d)
 
       pending_here : pending_at next.jobs k ≡ not (is_at_rest (view_at table next k))
-      pending_here = ap (λ (j : Job). pending_in j.state) job_here ∙ T.shown ∙ ap (λ (v : theory.Job). not (is_at_rest v)) (sym view_here)
+      pending_here = rw job_here T.shown
 
       abbrev left : List Step
       left = left_after t.event (left_of k book.jobs)
 
       left_is : left ≡ left_in' (view_at table next k)
-      left_is = ap (left_after t.event) (B.left_is k there) ∙ T.left ∙ ap left_in' (sym view_here)
+      left_is = rw (B.left_is k there, job_here) T.left
 
       done_left : is_done left ≡ is_at_rest (view_at table next k)
       done_left = ap is_done left_is ∙ done_rest (view_at table next k)
-
-      twice : (b : Bool) → not (not b) ≡ b
-      twice true = refl
-      twice false = refl
 
       finished_here : not (pending_at next.jobs k) ≡ is_at_rest (view_at table next k)
       finished_here = ap not pending_here ∙ twice (is_at_rest (view_at table next k))
@@ -208,9 +199,6 @@ module _ (model : Model) (table : Table) (book : Book) (batch : Batch) (sound : 
       turned_over : (b : Bool) → cond b None (Some k) ≡ cond (not b) (Some k) None
       turned_over true = refl
       turned_over false = refl
-
-      each_place : (P : ℕ → Type 0) → P k → ((b : ℕ) → (b ≡ k → ⊥) → P b) → (b : ℕ) → P b
-      each_place P here other b = elim (cases_eq b k) [ inl e ↦ subst P (sym e) here | inr d ↦ other b d ]
 
       step : MachineTicked table.tasks k (seen_by model table book batch) (seen_by t.model table worked next)
       step =
@@ -241,17 +229,17 @@ module _ (model : Model) (table : Table) (book : Book) (batch : Batch) (sound : 
             early = omega arith;
             clock_is = ap (λ (c : ℕ). c + 1) B.clock_is;
             left_is = λ a l.
-                each_place (λ b. b < n → left_of b worked.jobs ≡ left_in' (view_at table next b))
+                each_place k (λ b. b < n → left_of b worked.jobs ≡ left_in' (view_at table next b))
                 (λ _. left_here k left book.jobs release.0 release.1 ∙ left_is)
-                (λ b d i. left_other k left b book.jobs d ∙ B.left_is b i ∙ ap left_in' (sym (view_other b d))) a l;
+                (λ b d i. rw (left_other k left b book.jobs d, job_other b d) (B.left_is b i)) a l;
             pending_is = λ a l.
-                each_place (λ b. b < n → pending_at next.jobs b ≡ not (is_at_rest (view_at table next b)))
+                each_place k (λ b. b < n → pending_at next.jobs b ≡ not (is_at_rest (view_at table next b)))
                 (λ _. pending_here)
-                (λ b d i. ap (λ (j : Job). pending_in j.state) (job_other b d) ∙ B.pending_is b i ∙ ap (λ (v : theory.Job). not (is_at_rest v)) (sym (view_other b d))) a l;
+                (λ b d i. rw (job_other b d) (B.pending_is b i)) a l;
             released_is = λ a l.
-                each_place (λ b. b < n → (get_or next.jobs b no_job).released ≡ release_of b worked.jobs)
-                (λ i. ap (λ (j : Job). j.released) job_here ∙ T.released ∙ B.released_is k i ∙ sym (release_kept k left k book.jobs))
-                (λ b d i. ap (λ (j : Job). j.released) (job_other b d) ∙ B.released_is b i ∙ sym (release_kept k left b book.jobs)) a l;
+                each_place k (λ b. b < n → (get_or next.jobs b no_job).released ≡ release_of b worked.jobs)
+                (λ i. rw (job_here, T.released, release_kept k left k book.jobs) (B.released_is k i))
+                (λ b d i. rw (job_other b d, release_kept k left b book.jobs) (B.released_is b i)) a l;
             latest = latest_kept k left book.jobs B.latest;
             placed = each_kept (λ a r. a < n) k left book.jobs B.placed;
             past = each_kept (λ a r. r ≤ book.clock + 1) k left book.jobs (each_more (λ job. job.release ≤ book.clock) (λ job. job.release ≤ book.clock + 1) book.jobs (λ job h. omega arith) B.past);
@@ -259,23 +247,21 @@ module _ (model : Model) (table : Table) (book : Book) (batch : Batch) (sound : 
             last_is = last_worked;
             worker = λ w e.
                 let s : Some (k, release.0) ≡ Some w = ap (worker_at k) (sym release.1) ∙ e in
-                let r : release.0 ≡ w.1 = second w s in
+                let p : (k, release.0) ≡ w = cc in
+                let r : release.0 ≡ w.1 = ap (λ (x : ℕ × ℕ). x.1) p in
                 omega (arith, each_release book.clock k book.jobs B.past release.0 release.1);
             retries_is = omega (arith, B.retries_is, retries_one t.event);
             preemptions_is = omega (arith, B.preemptions_is, preempts_is book.before k book.jobs, ap (λ (o : Option ℕ). preemption o k) B.last_is);
             finished_is = omega (arith, finished_more k left book.jobs not_done, B.finished_is, ap one (finished_here ∙ sym done_left));
             releases_is = length_kept k left book.jobs ∙ B.releases_is;
           }
-        where
-          second : (w : ℕ × ℕ) → Some (k, release.0) ≡ Some w → release.0 ≡ w.1
-          second w s = let p : (k, release.0) ≡ w = cc in ap (λ (x : ℕ × ℕ). x.1) p
 
       -- what the tick tells
       pub work_fits : WorkFits model table book k t.event (not (pending_at next.jobs k))
       work_fits =
           record {
             there = there;
-            fits = subst (λ (steps : List Step). EventFits model t.event steps) (sym (B.left_is k there)) T.fits;
+            fits = rw (B.left_is k there) T.fits;
             tells = finished_here ∙ sym done_left;
           }
 

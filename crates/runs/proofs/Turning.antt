@@ -1,5 +1,5 @@
 -- One tick of a pending job: the controller's record, the theory's and the ledger's move alike.
-use Rattle.std.proofs.Common.{◌≡◌, ℕ, ◌+◌, ◌-◌, Bool, true, false, cond, not, ◌&&◌, eqb, ltb, List, ◌∷◌, drop, sym, refl, ap, ◌∙◌, subst, inl, inr}
+use Rattle.std.proofs.Common.{◌≡◌, ℕ, ◌+◌, ◌-◌, Bool, true, false, cond, not, ◌&&◌, eqb, ltb, List, ◌∷◌, drop, sym, refl, ap, ◌∙◌, inl, inr}
 use Rattle.std.specs.List.{slice_get}
 use Rattle.std.proofs.lemmas.Bool.{cases_Bool, both_ways, eqb-true, cond-true, cond-false}
 use Rattle.shelf.specs.Models.{Model, reading_at, accepts, committed, changed}
@@ -36,13 +36,13 @@ module _ (model : Model) (plan : List Step) (job : Job) where
   told : (t : Turn) (before after : theory.Job) → view_of plan job ≡ before → view_of plan t.job ≡ after → t.job.released ≡ job.released → Facts model before after t → Turned model plan job t
   told t before after v w r f =
       record {
-        view = w ∙ f.tick ∙ ap (after_tick (reading_at model)) (sym v);
-        shown = f.shown ∙ ap (λ (j : theory.Job). not (is_at_rest j)) (sym w);
-        retry = f.retry ∙ ap (λ (j : theory.Job). bit (refused (reading_at model) j)) (sym v);
-        left = ap (λ (j : theory.Job). left_after t.event (left_in' j)) v ∙ f.left ∙ ap left_in' (sym w);
-        fits = subst (λ (j : theory.Job). EventFits model t.event (left_in' j)) (sym v) f.fits;
-        contents = ap (λ (j : theory.Job). contents_after t.event model (left_in' j)) v ∙ f.contents;
-        quiet = λ h. f.quiet (ap in_attempt (sym w) ∙ h);
+        view = rw (w, v) f.tick;
+        shown = rw w f.shown;
+        retry = rw v f.retry;
+        left = rw (v, w) f.left;
+        fits = rw v f.fits;
+        contents = rw v f.contents;
+        quiet = rw w f.quiet;
         rules = f.rules;
         worked = f.worked;
         released = r;

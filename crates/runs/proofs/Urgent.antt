@@ -1,5 +1,5 @@
 -- The job that is chosen is the most urgent in the order of its rule.
-use Rattle.std.proofs.Common.{◌≡◌, ℕ, zero, suc, ◌+◌, ◌<◌, Bool, true, false, List, length, get_or, Some, None, Option, sym, subst, inl, inr, add-one, arith}
+use Rattle.std.proofs.Common.{◌≡◌, ℕ, zero, suc, ◌+◌, ◌<◌, Bool, true, false, List, length, get_or, Some, None, Option, sym, inl, inr, add-one, arith}
 use Rattle.std.proofs.lemmas.Bool.{cases_Bool, cases_order}
 use Rattle.admission.specs.declared.plan.Rule.{Rule}
 use Rattle.admission.specs.declared.plan.AdoptedTask.{AdoptedTask}
@@ -27,7 +27,7 @@ module _ (rule : Rule) (tasks : List AdoptedTask) (jobs : List Job) where
   pub chosen_best : Best (pending_at jobs) urgency (length tasks) (chosen rule tasks jobs)
   chosen_best =
       let b = best_of (pending_at jobs) urgency (length tasks) in
-      subst (λ (o : Option ℕ). Best (pending_at jobs) urgency (length tasks) o) (best_chosen (pending_at jobs) urgency (length tasks) b.0 b.1) b.1
+      rw (best_chosen (pending_at jobs) urgency (length tasks) b.0 b.1) at b.1
 
   -- in the order of the rule it goes before every other pending job
   module _ (k : ℕ) (best : Best (pending_at jobs) urgency (length tasks) (Some k)) (apart : goes_by_rank rule ≡ true → Ranked tasks) (release : ℕ → ℕ) (known : (a : ℕ) → a < length tasks → release a ≡ release_of (get_or jobs a no_job)) where

@@ -1,7 +1,7 @@
 -- A controller's record of a place, as the theory of runs has it, and one tick of it.
 use Rattle.std.proofs.Common.{◌≡◌, ℕ, zero, suc, Bool, true, false, not, eqb, List, [], ◌∷◌, drop, sym, refl, ◌∙◌, inl, inr, arith}
 use Rattle.std.specs.List.{slice_get}
-use Rattle.std.proofs.lemmas.Bool.{cases_eq, both_ways, le-ltb, eq-eqb, ne_eqb}
+use Rattle.std.proofs.lemmas.Bool.{cases_eq, le-ltb, eq-eqb, ne_eqb}
 use Rattle.shelf.specs.Models.{Model, reading_at, accepts}
 use Rattle.admission.specs.declared.plan.Word.{Word}
 use Rattle.admission.specs.declared.plan.Step.{Step}
@@ -15,6 +15,10 @@ use Rattle.controller.specs.Turns.{Turn, pending_in, left_in, seen_in, start_of,
 use Rattle.controller.specs.Machines.{one, is_retry_event}
 use Rattle.runs.specs.Ledger.{Book, is_done, left_after, contents_after, working, after_event}
 use Rattle.runs.specs.Laws.{EventFits}
+
+pub twice : (b : Bool) → not (not b) ≡ b
+twice true = refl
+twice false = refl
 
 -- a job in its present step, the first of those that are left
 abbrev pub in_step : ℕ → ℕ → List Step → theory.Job
@@ -48,8 +52,8 @@ done_rest (attempting left word n object amount seen later) = refl
 
 pub rest_is : (job : theory.Job) → is_at_rest job ≡ true → job ≡ resting
 rest_is resting h = refl
-rest_is (computing left later) h = absurd (both_ways true (sym h) refl)
-rest_is (attempting left word n object amount seen later) h = absurd (both_ways true (sym h) refl)
+rest_is (computing left later) h = cc
+rest_is (attempting left word n object amount seen later) h = cc
 
 -- a job at the start of its steps
 pub started : (steps : List Step) → in_state (start_of (slice_get steps 0)) steps ≡ begun steps
@@ -69,12 +73,12 @@ begun_outside (Compute n ∷ later) = refl
 begun_outside (Access word n object amount ∷ later) = le-ltb n n (omega arith)
 
 pub pending_view : (state : JobState) (steps : List Step) → pending_in state ≡ true → in_state state steps ≡ in_step (left_in state) (seen_in state) steps
-pending_view Resting steps h = absurd (both_ways true (sym h) refl)
+pending_view Resting steps h = cc
 pending_view (Computing left) steps h = refl
 pending_view (Attempting left seen) steps h = refl
 
 pub pending_outcome : (model : Model) (state : JobState) (word : Word) (n object amount reading : ℕ) → pending_in state ≡ true → outcome_of model state (Access word n object amount) reading ≡ outcome_in model (left_in state) object reading
-pending_outcome model Resting word n object amount reading h = absurd (both_ways true (sym h) refl)
+pending_outcome model Resting word n object amount reading h = cc
 pending_outcome model (Computing left) word n object amount reading h = refl
 pending_outcome model (Attempting left seen) word n object amount reading h = refl
 

@@ -1,3 +1,4 @@
 pub mod Entries
 pub mod Ledger
 pub mod Laws
+pub mod Sessions

@@ -29,6 +29,7 @@ pub enum Call {
 }
 
 // What a call answered. `NoToken`: there was no such token to hand in, so no call was made.
+// Flat, no Result of what was granted: `NoToken` is neither granted nor refused.
 #[derive(Clone, Copy)]
 pub enum Answer {
     Taken { answer: u32 },

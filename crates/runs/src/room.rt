@@ -19,14 +19,12 @@ impl Room {
         ensures { IfOk result (λ room. room.calls ≡ calls) }
     {
         let answers = Vec::with_capacity(heap, calls)?;
-        match Vec::with_capacity(heap, calls) {
-            Ok(tokens) => Ok(Room {
-                calls,
-                answers,
-                tokens,
-            }),
-            Err(e) => Err(e),
-        }
+        let tokens = Vec::with_capacity(heap, calls)?;
+        Ok(Room {
+            calls,
+            answers,
+            tokens,
+        })
     }
 
     pub fn give_back(self) {

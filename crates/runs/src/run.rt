@@ -5,8 +5,8 @@ ghost use Rattle.runs.specs.Ledger.{start};
 ghost use Rattle.runs.specs.Laws.{Law, after, written_all, RunLaw};
 
 use crate::calls::{Answer, Call};
-use crate::perform::perform;
 use crate::room::Room;
+use crate::session::Session;
 use controller::controller::Controller;
 use controller::token::BatchToken;
 use shelf::interface::Shelf;
@@ -26,25 +26,21 @@ pub struct TooLong<S> {
 }
 
 // All calls, in order, in room that was reserved for them.
-pub(crate) fn run_reserved<S: Shelf>(
-    shelf: S,
-    calls: &mut [Call],
-    mut answers: Vec<Answer>,
-    mut tokens: Vec<BatchToken>,
-) -> Ran<S>
-    requires empty { (vec_len answers ≡ 0) × (vec_len tokens ≡ 0) }
-    requires room { (length calls.old ≤ vec_capacity answers) × (length calls.old ≤ vec_capacity tokens) }
-    ensures law { Law (start (S.Shelf.model shelf)) (map entry_of calls.old) result.answers.items }
-    ensures lists { map entry_of calls.new ≡ written_all (start (S.Shelf.model shelf)) (map entry_of calls.old) result.answers.items }
-    ensures contents { S.Shelf.model result.controller.shelf ≡ (after (start (S.Shelf.model shelf)) (map entry_of calls.old) (result.answers.items)).model }
-    ensures held { goods result.tokens.items ≡ (after (start (S.Shelf.model shelf)) (map entry_of calls.old) (result.answers.items)).held }
-    ensures whole { RunLaw (S.Shelf.model shelf) (map entry_of calls.old) (map entry_of calls.new) result.answers.items (machine (S.Shelf.model result.controller.shelf) result.controller.core) (goods result.tokens.items) }
+#[tactic(auto, using(crate::proofs::Loops::story_new, std::proofs::lemmas::List::nil_from_length))]
+fn run_reserved<S: Shelf>(shelf: S, calls: &mut [Call], room: Room) -> Ran<S>
+    requires { length calls.old ≤ room.calls }
+    ensures { RunLaw (S.Shelf.model shelf) (map entry_of calls.old) (map entry_of calls.new) result.answers.items (machine (S.Shelf.model result.controller.shelf) result.controller.core) (goods result.tokens.items) }
 {
-    let mut controller = Controller::new(shelf);
+    let Room {
+        calls: _,
+        mut answers,
+        tokens,
+    } = room;
+    let mut session = Session::new(shelf, tokens);
     for call in calls.iter_mut() {
-        let answer = perform(&mut controller, &mut tokens, call);
-        answers.push_reserved(answer);
+        answers.push_reserved(session.perform(call));
     }
+    let Session { controller, tokens } = session;
     Ran {
         controller,
         answers,
@@ -64,19 +60,7 @@ pub fn run<S: Shelf>(shelf: S, calls: &mut [Call], room: Room) -> Result<Ran<S>,
     if calls.len() > room.calls {
         return Err(TooLong { shelf, room });
     }
-    let Room {
-        calls: _,
-        answers,
-        tokens,
-    } = room;
-    Ok(run_reserved(shelf, calls, answers, tokens))
-}
-
-// Hands in a token that is left; what close answers is of no more use.
-fn hand_in<S: Shelf>(controller: &mut Controller<S>, token: BatchToken)
-    ensures { machine (S.Shelf.model controller.new.shelf) controller.new.core ≡ closed (machine (S.Shelf.model controller.old.shelf) controller.old.core) token.good }
-{
-    let _ = controller.close(token);
+    Ok(run_reserved(shelf, calls, room))
 }
 
 impl<S: Shelf> Ran<S> {
@@ -87,14 +71,11 @@ impl<S: Shelf> Ran<S> {
         ensures machine { machine (S.Shelf.model result.0.shelf) result.0.core ≡ closed (machine (S.Shelf.model self.controller.shelf) self.controller.core) (nat_lt 0 (good_in (goods self.tokens.items))) }
     {
         let Ran {
-            mut controller,
+            controller,
             answers,
-            mut tokens,
+            tokens,
         } = self;
-        while let Some(token) = tokens.pop() {
-            hand_in(&mut controller, token);
-        }
-        tokens.destroy_empty();
-        (controller, answers)
+        let session = Session { controller, tokens };
+        (session.finish(), answers)
     }
 }
