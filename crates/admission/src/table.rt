@@ -19,6 +19,7 @@ pub struct AdoptedTable {
     pub(crate) plans: ArrayVec<Plan, 32>,
     // By rank: the places, the most urgent first.
     pub(crate) order: ArrayVec<usize, 32>,
+    ghost few: { length tasks.items ≤ 32 },
     ghost witnessed: { length witnesses.items ≡ length tasks.items },
     ghost ordered: { length order.items ≡ length tasks.items },
     ghost periods: { EachTask PeriodFits tasks.items },

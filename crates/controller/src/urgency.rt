@@ -6,7 +6,6 @@ ghost use Rattle.controller.specs.Choices.{urgency_of, chosen, pending_at};
 
 use crate::job::Job;
 use admission::plan::{AdoptedTask, Rule};
-use admission::rank::is_by_rank;
 use admission::table::AdoptedTable;
 
 // The urgency of a job: its rank, or its absolute deadline and then its release. The lower goes
@@ -14,7 +13,7 @@ use admission::table::AdoptedTable;
 fn urgency(rule: Rule, task: &AdoptedTask, job: &Job) -> (u64, u64)
     ensures { result ≡ urgency_of rule task.now job.now }
 {
-    if is_by_rank(rule) {
+    if rule.is_by_rank() {
         return (task.rank as u64, 0);
     }
     let released = job.released.unwrap_or(0) as u64;
@@ -27,7 +26,7 @@ pub(crate) fn next_place(table: &AdoptedTable, jobs: &[Job; 32]) -> Option<usize
     ensures is { result ≡ chosen (held table.now).rule (held table.now).tasks jobs.now }
     ensures inside { IfSome result (λ place. place < 32) }
 {
-    if is_by_rank(table.rule()) {
+    if table.rule().is_by_rank() {
         lowest_ranked(table, jobs)
     } else {
         most_urgent(table, jobs)

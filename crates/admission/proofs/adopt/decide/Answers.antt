@@ -33,6 +33,7 @@ invariant_of-table g c =
     let w : W ≡ witnesses_of rule s X = p.witnesses in
     let o : goes_by_rank rule ≡ true → Ordered X O = λ b. subst (λ (xs : List AdoptedTask). Ordered xs O) c.deref.ensures.0 (c.order-order.ensures.ordered b) in
     record {
+      few = r.0;
       witnessed = ap (λ (xs : List ℕ). length xs) w ∙ length-map-range_with_len _ 0 (length X);
       ordered = c.order-order.ensures.long ∙ ap (λ (xs : List AdoptedTask). length xs) c.deref.ensures.0;
       periods = λ k l. (r.1 k l).0;

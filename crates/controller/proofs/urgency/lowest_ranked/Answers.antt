@@ -2,7 +2,7 @@ use Rattle.std.proofs.Common.{◌≡◌, ℕ, ◌<◌, ◌≤◌, false, true, l
 use Rattle.std.proofs.lemmas.Iterator.{YieldsList-from_slice, first_from_find}
 use Rattle.std.proofs.lemmas.Iterator.Adapters.{serves_from_places}
 use Rattle.std.proofs.lemmas.Iterator.Consumers.{YieldsList-from_copied}
-use Rattle.std.proofs.lemmas.List.{get_or_default, length-take}
+use Rattle.std.proofs.lemmas.List.{get_or_default}
 use Rattle.admission.specs.Held.{held}
 use Rattle.controller.specs.Choices.{pending_at}
 use Rattle.controller.proofs.Ordering.{first_ranked}
@@ -12,7 +12,7 @@ pub find-requires-clause-callable : goal.find-requires-clause-callable
 find-requires-clause-callable c =
     let order = c.order.result.now in
     let tasks = (held c.args.table.now).tasks in
-    let few : length tasks ≤ 32 = simp length-take (omega (arith, c.args.table.now.few)) in
+    let few : length tasks ≤ 32 = c.args.table.now.few in
     serves_from_places (YieldsList-from_copied (YieldsList-from_slice order cc)) (λ x q k. search (rules, tests))
     (λ x k l e.
     let inside : get_or order k x < length tasks = rw (get_or_default order k x 0 l) ((c.order.ensures.ordered c.requires).entries k (omega (arith, c.order.ensures.long))) in
