@@ -1,6 +1,7 @@
 -- The most urgent pending job, found by going through the places once.
 use Rattle.std.proofs.Common.{◌≡◌, ℕ, ◌+◌, ◌<◌, ◌≤◌, Bool, true, false, not, ◌&&◌, eqb, ltb, ◌⊎◌, IfSome, Some, None, Option, sym, ◌∙◌, subst, inl, inr, arith}
 use Rattle.std.proofs.lemmas.Bool.{cases_Bool, cases_eq, both_ways, or_cases, or_parts, or_left, or_right, and_parts, and_from, and_cases, and_left, and_right, lt-ltb, ltb-true, ltb-false, eq-eqb, eqb-true, eqb-false, not_from_true, not_from_false}
+use Rattle.std.specs.Option.{MatchOption, option_map}
 use Rattle.admission.specs.Search.{first_below, some_below}
 use Rattle.admission.proofs.Firsts.{first_none, first_some, some_true, some_false}
 use Rattle.controller.specs.Choices.{is_more_urgent}
@@ -85,7 +86,7 @@ module _ (pending : ℕ → Bool) (urgency : ℕ → ℕ × ℕ) where
     h.3,
   )
 
-  pub replaced : (n b : ℕ) → Best n (Some b) → pending n ≡ true → before n b ≡ true → Best (n + 1) (Some n)
+  replaced : (n b : ℕ) → Best n (Some b) → pending n ≡ true → before n b ≡ true → Best (n + 1) (Some n)
   replaced n b h p e =
       let low = lower_yes (urgency n) (urgency b) e in (
         omega arith,
@@ -100,7 +101,7 @@ module _ (pending : ℕ → Bool) (urgency : ℕ → ℕ × ℕ) where
         (λ j l q. lower_from (urgency n) (urgency j) (lower_upper (urgency n) (urgency b) (urgency j) low (lower_no (urgency j) (urgency b) (h.2 j l q)))),
       )
 
-  pub stays : (n b : ℕ) → Best n (Some b) → before n b ≡ false → Best (n + 1) (Some b)
+  stays : (n b : ℕ) → Best n (Some b) → before n b ≡ false → Best (n + 1) (Some b)
   stays n b h e = (
     omega (arith, h.0),
     h.1,
@@ -108,7 +109,7 @@ module _ (pending : ℕ → Bool) (urgency : ℕ → ℕ × ℕ) where
     h.3,
   )
 
-  pub best_first : (n : ℕ) → Best n None → pending n ≡ true → Best (n + 1) (Some n)
+  best_first : (n : ℕ) → Best n None → pending n ≡ true → Best (n + 1) (Some n)
   best_first n h p = (
     omega arith,
     p,
@@ -119,6 +120,19 @@ module _ (pending : ℕ → Bool) (urgency : ℕ → ℕ × ℕ) where
         ]),
     (λ j l q. absurd (both_ways (pending j) (h j l) q)),
   )
+
+  -- the best of the places below n, with its urgency beside it
+  pub record Kept (n : ℕ) (o : Option (ℕ × (ℕ × ℕ))) : Type 0 where
+    pub best : Best n (option_map (λ (b : ℕ × (ℕ × ℕ)). b.0) o)
+    pub keyed : IfSome o (λ b. b.1 ≡ urgency b.0)
+
+  pub kept_more : (n : ℕ) (o : Option (ℕ × (ℕ × ℕ))) (u : ℕ × ℕ) → Kept n o → pending n ≡ true → u ≡ urgency n → IfSome o (λ b. is_more_urgent u b.1 ≡ true) → Kept (n + 1) (Some (n, u))
+  kept_more n None u k p e h = record { best = best_first n k.best p; keyed = e }
+  kept_more n (Some b) u k p e h = record { best = replaced n b.0 k.best p (subst (λ (x : ℕ × ℕ). is_more_urgent x (urgency b.0) ≡ true) e (subst (λ (x : ℕ × ℕ). is_more_urgent u x ≡ true) k.keyed h)); keyed = e }
+
+  pub kept_stays : (n : ℕ) (o : Option (ℕ × (ℕ × ℕ))) (u : ℕ × ℕ) → Kept n o → u ≡ urgency n → MatchOption o ⊥ (λ b. is_more_urgent u b.1 ≡ false) → Kept (n + 1) o
+  kept_stays n None u k e h = absurd h
+  kept_stays n (Some b) u k e h = record { best = stays n b.0 k.best (subst (λ (x : ℕ × ℕ). is_more_urgent x (urgency b.0) ≡ false) e (subst (λ (x : ℕ × ℕ). is_more_urgent u x ≡ false) k.keyed h)); keyed = k.keyed }
 
   abbrev ahead : ℕ → ℕ → Bool
   ahead place other = before other place && pending other

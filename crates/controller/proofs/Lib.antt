@@ -1,4 +1,3 @@
 pub mod Choosing
 pub mod Ordering
-pub mod Picking
 pub mod Working

@@ -46,21 +46,24 @@ fn lowest_ranked(table: &AdoptedTable, jobs: &[Job; 32]) -> Option<usize>
         .find(|place| jobs[*place].state.is_pending())
 }
 
-// Under any rule: the most urgent pending job, found by comparing all of them. Of equals,
-// `min_by_key` gives the first.
+// Under any rule: the most urgent pending job, found by comparing all of them, and of equals the
+// first. A loop: with `min_by_key` a tick by deadline takes a fifth longer.
 fn most_urgent(table: &AdoptedTable, jobs: &[Job; 32]) -> Option<usize>
     ensures is { result ≡ chosen (held table.now).rule (held table.now).tasks jobs.now }
     ensures inside { IfSome result (λ place. place < 32) }
 {
-    let rule = table.rule();
-    table
-        .tasks()
-        .iter()
-        .zip(jobs)
-        .enumerate()
-        .filter(|(_, (_, job))| job.state.is_pending())
-        .min_by_key(|(_, (task, job))| urgency(rule, task, job))
-        .map(|(place, _)| place)
+    let mut best: Option<(usize, (u64, u64))> = None;
+    for (place, task) in table.tasks().iter().enumerate() {
+        let job = &jobs[place];
+        if !job.state.is_pending() {
+            continue;
+        }
+        let urgency = urgency(table.rule(), task, job);
+        if best.is_none_or(|(_, least)| urgency < least) {
+            best = Some((place, urgency));
+        }
+    }
+    best.map(|(place, _)| place)
 }
 
 // How many jobs of the table's tasks are pending.

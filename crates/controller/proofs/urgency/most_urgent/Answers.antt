@@ -1,30 +1,46 @@
-use Rattle.std.proofs.Common.{◌≡◌, ℕ, ◌≤◌, List, length, subst, Option, Some, None, ◌∙◌, refl, ap, rules, tests, arith, Bor}
-use Rattle.std.proofs.lemmas.Iterator.{YieldsList-from_slice, YieldsList-from_zip}
-use Rattle.std.proofs.lemmas.Iterator.Consumers.{YieldsList-from_enumerate, YieldsList-from_filter}
-use Rattle.std.specs.Option.{option_map}
+use Rattle.std.proofs.Common.{◌≡◌, ℕ, Bool, true, false, IfSome, Some, None, Option, List, length, get_or, sym, subst, rules, tests, arith, ◌∙◌}
+use Rattle.std.specs.Bool.{IsTrue}
+use Rattle.std.specs.Option.{MatchOption, option_map}
 use Rattle.admission.specs.declared.plan.AdoptedTask.{AdoptedTask}
-use Rattle.controller.specs.declared.job.Job.{Job}
 use Rattle.admission.specs.Held.{held}
-use Rattle.controller.specs.Choices.{urgency_of}
-use Rattle.controller.specs.Turns.{pending_in}
-use Rattle.controller.proofs.Picking.{least_from_min_by_key, least_is_chosen, pair_cmp}
+use Rattle.admission.specs.Tables.{no_adopted_task}
+use Rattle.controller.specs.Choices.{no_job, pending_at, urgency_of, is_more_urgent}
+use Rattle.controller.proofs.Choosing.{Best, kept_more, kept_stays, best_chosen}
 use Rattle.controller.proofs.urgency.most_urgent.Goals as goal
+use Rattle.controller.proofs.urgency.most_urgent.Goals.{then-is_none_or, else-is_none_or}
 
--- an item shows its place
-shows_place : (o : Option (ℕ × (Bor AdoptedTask × Bor Job))) → option_map (λ (b : ℕ × (Bor AdoptedTask × Bor Job)). b.0) o ≡ option_map (λ (b : ℕ × (AdoptedTask × Job)). b.0) (option_map (λ (b : ℕ × (Bor AdoptedTask × Bor Job)). (b.0, (b.1.0.now, b.1.1.now))) o)
-shows_place None = refl
-shows_place (Some b) = refl
+sooner_than_all : (o : Option (ℕ × (ℕ × ℕ))) (u : ℕ × ℕ) (r : Bool) {P : ℕ × (ℕ × ℕ) → Type 0} → MatchOption o (IsTrue r) P → ((b : ℕ × (ℕ × ℕ)) → P b → r ≡ is_more_urgent u b.1) → r ≡ true → IfSome o (λ b. is_more_urgent u b.1 ≡ true)
+sooner_than_all None u r h said e = tt
+sooner_than_all (Some b) u r h said e = sym (said b h) ∙ e
+
+later_than_one : (o : Option (ℕ × (ℕ × ℕ))) (u : ℕ × ℕ) (r : Bool) {P : ℕ × (ℕ × ℕ) → Type 0} → MatchOption o (IsTrue r) P → ((b : ℕ × (ℕ × ℕ)) → P b → r ≡ is_more_urgent u b.1) → r ≡ false → MatchOption o ⊥ (λ b. is_more_urgent u b.1 ≡ false)
+later_than_one None u r h said e = search (rules, tests)
+later_than_one (Some b) u r h said e = sym (said b h) ∙ e
+
+pub loop-place-preserved : goal.loop-place-preserved
+loop-place-preserved c =
+    let table = held c.args.table.now in
+    let u = c.urgency-urgency.result in
+    let keyed : u ≡ urgency_of table.rule (get_or table.tasks c.loop-place.place no_adopted_task) (get_or c.args.jobs.now c.loop-place.place no_job) = cc in
+    elim c.if-is_none_or.branch [
+      | then-is_none_or w ↦
+          rw w.best-is
+          (kept_more _ _ c.loop-place.place c.loop-place.best u c.loop-place.invariant (sym c.is_pending.ensures ∙ c.if-not-is_pending.false) keyed
+          (sooner_than_all c.loop-place.best u c.is_none_or.result c.is_none_or.ensures (λ b p. search (rules, tests)) w.if-is_none_or.true))
+      | else-is_none_or w ↦
+          rw w.best-is
+          (kept_stays _ _ c.loop-place.place c.loop-place.best u c.loop-place.invariant keyed
+          (later_than_one c.loop-place.best u c.is_none_or.result c.is_none_or.ensures (λ b p. search (rules, tests)) w.if-is_none_or.false))
+    ]
 
 pub returns-clause-is : goal.returns-clause-is
 returns-clause-is c =
     let table = held c.args.table.now in
-    let few : length table.tasks ≤ 32 = subst (λ (tasks : List AdoptedTask). length tasks ≤ 32) c.tasks.ensures.are c.tasks.ensures.few in
-    let placed : c.map.result ≡ option_map (λ (b : ℕ × (Bor AdoptedTask × Bor Job)). b.0) c.min_by_key.result = search rules in
+    let jobs = c.args.jobs.now in
+    let urgency : ℕ → ℕ × ℕ = λ place. urgency_of table.rule (get_or table.tasks place no_adopted_task) (get_or jobs place no_job) in
+    let placed : c.map.result ≡ option_map (λ (b : ℕ × (ℕ × ℕ)). b.0) c.loop-place.best = search rules in
+    let all : c.loop-place.place ≡ length table.tasks =
+    subst (λ (tasks : List AdoptedTask). c.loop-place.place ≡ length tasks) c.tasks-task-items.ensures.are (omega arith) in
     placed
-    ∙ shows_place c.min_by_key.result
-    ∙ ap (option_map (λ (b : ℕ × (AdoptedTask × Job)). b.0))
-    (least_from_min_by_key _ _ pair_cmp (λ (b : ℕ × (AdoptedTask × Job)). urgency_of table.rule b.1.0 b.1.1) _ (λ x k q h. search (rules, tests)) _ _ c.min_by_key.result c.min_by_key.ensures.ran
-    (YieldsList-from_filter _ (λ (b : ℕ × (AdoptedTask × Job)). pending_in b.1.1.state)
-    (YieldsList-from_enumerate (YieldsList-from_zip (YieldsList-from_slice table.tasks cc) (YieldsList-from_slice c.args.jobs.now cc)) cc)
-    c.filter.ensures.closure (λ x b q k. search (rules, tests))))
-    ∙ least_is_chosen table.rule table.tasks c.args.jobs.now (omega (arith, few))
+    ∙ best_chosen (pending_at jobs) urgency (length table.tasks) _
+      (subst (λ (n : ℕ). Best (pending_at jobs) urgency n (option_map (λ (b : ℕ × (ℕ × ℕ)). b.0) c.loop-place.best)) all c.loop-place.invariant.best)
