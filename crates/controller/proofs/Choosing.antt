@@ -1,5 +1,5 @@
 -- The most urgent pending job, found by going through the places once.
-use Rattle.std.proofs.Common.{◌≡◌, ℕ, ◌+◌, ◌<◌, ◌≤◌, Bool, true, false, not, ◌&&◌, eqb, ltb, ◌⊎◌, IfSome, Some, None, Option, sym, ◌∙◌, subst, inl, inr, arith}
+use Rattle.std.proofs.Common.{◌≡◌, ℕ, zero, suc, ◌+◌, ◌<◌, ◌≤◌, Bool, true, false, not, ◌&&◌, eqb, ltb, ◌⊎◌, IfSome, Some, None, Option, sym, ◌∙◌, subst, inl, inr, add-one, arith}
 use Rattle.std.proofs.lemmas.Bool.{cases_Bool, cases_eq, both_ways, or_cases, or_parts, or_left, or_right, and_parts, and_from, and_cases, and_left, and_right, lt-ltb, ltb-true, ltb-false, eq-eqb, eqb-true, eqb-false, not_from_true, not_from_false}
 use Rattle.std.specs.Option.{MatchOption, option_map}
 use Rattle.admission.specs.Search.{first_below, some_below}
@@ -120,6 +120,24 @@ module _ (pending : ℕ → Bool) (urgency : ℕ → ℕ × ℕ) where
         ]),
     (λ j l q. absurd (both_ways (pending j) (h j l) q)),
   )
+
+  best_more : (n : ℕ) (o : Option ℕ) → Best n o → pending n ≡ true → (p : Option ℕ) × Best (n + 1) p
+  best_more n None h p = (Some n, best_first n h p)
+  best_more n (Some b) h p =
+      elim (cases_Bool (before n b)) [
+        | inl e ↦ (Some n, replaced n b h p e)
+        | inr e ↦ (Some b, stays n b h e)
+      ]
+
+  -- there is a best of the places below any number
+  pub best_of : (n : ℕ) → (o : Option ℕ) × Best n o
+  best_of zero = (None, λ k l. absurd (omega arith))
+  best_of (suc n) =
+      let b = best_of n in
+      elim (cases_Bool (pending n)) [
+        | inl e ↦ rw (sym (add-one n)) (best_more n b.0 b.1 e)
+        | inr e ↦ (b.0, rw (sym (add-one n)) (best_skip n b.0 b.1 e))
+      ]
 
   -- the best of the places below n, with its urgency beside it
   pub record Kept (n : ℕ) (o : Option (ℕ × (ℕ × ℕ))) : Type 0 where

@@ -7,18 +7,8 @@ use Rattle.admission.specs.Tables.{goes_by_rank, no_adopted_task}
 use Rattle.admission.specs.Tests.{Ranked}
 use Rattle.schedule.specs.Batches.{ByDeadline, task_at}
 use Rattle.controller.specs.declared.job.Job.{Job}
-use Rattle.controller.specs.Choices.{no_job, pending_at, release_of, urgency_of, is_more_urgent, better_of, chosen}
-use Rattle.controller.proofs.Choosing.{Best, best_skip, best_more, best_chosen, Lower, Upper, lower_yes, lower_no}
-
--- there is a best of the places below any number
-best_of : (pending : ℕ → Bool) (urgency : ℕ → ℕ × ℕ) (n : ℕ) → (o : Option ℕ) × Best pending urgency n o
-best_of pending urgency zero = (None, λ k l. absurd (omega arith))
-best_of pending urgency (suc n) =
-    let b = best_of pending urgency n in
-    elim (cases_Bool (pending n)) [
-      | inl e ↦ (better_of (λ a c. is_more_urgent (urgency a) (urgency c)) b.0 n, rw (sym (add-one n)) (best_more pending urgency n b.0 b.1 e))
-      | inr e ↦ (b.0, rw (sym (add-one n)) (best_skip pending urgency n b.0 b.1 e))
-    ]
+use Rattle.controller.specs.Choices.{no_job, pending_at, release_of, urgency_of, is_more_urgent, chosen}
+use Rattle.controller.proofs.Choosing.{Best, best_of, best_chosen, Lower, Upper, lower_yes, lower_no}
 
 module _ (rule : Rule) (tasks : List AdoptedTask) (jobs : List Job) where
   abbrev urgency : ℕ → ℕ × ℕ
