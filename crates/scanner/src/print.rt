@@ -129,14 +129,13 @@ impl fmt::Display for LineError<'_> {
                 "{word:?} is not a number from 0 to 4294967295"
             ),
             LineError::TooFewNumbers { verb, found } => {
-                let name = verb.name();
                 let arity = verb.arity();
-                write!(f, "too few numbers after {name:?}: {found} of {arity}")
+                write!(f, "too few numbers after \"{verb}\": {found} of {arity}")
             }
-            LineError::LeftOver { verb, word } => {
-                let name = verb.name();
-                write!(f, "too much after {name:?}: {word:?} is left over")
-            }
+            LineError::LeftOver { verb, word } => write!(
+                f,
+                "too much after \"{verb}\": {word:?} is left over"
+            ),
         }
     }
 }
