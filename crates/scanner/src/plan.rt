@@ -162,10 +162,8 @@ impl Plan {
         if more > MOST_CALLS || self.calls.len() > MOST_CALLS - more {
             return Err(PlanError::TooManyCalls);
         }
-        self.calls.reserve(more)?;
-        for _ in 0..more {
-            self.calls.push_reserved(Call::Tick);
-        }
+        self.calls
+            .resize_with(self.calls.len() + more, || Call::Tick)?;
         Ok(())
     }
 }

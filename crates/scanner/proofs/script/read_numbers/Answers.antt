@@ -1,7 +1,6 @@
 use Rattle.std.proofs.Common.{arith}
-use Rattle.std.proofs.lemmas.Result.{err_from_is_err_and}
 use Rattle.std.specs.Str.Iter.{split_whitespace_rest}
-use Rattle.scanner.proofs.Reading.{first_of, read_more, misread}
+use Rattle.scanner.proofs.Reading.{first_of, read_more}
 use Rattle.scanner.proofs.script.read_numbers.Goals as goal
 
 pub loop-word-preserved : goal.loop-word-preserved
