@@ -27,5 +27,5 @@ ticks_more R f d xs ys n times is made at long =
     let many : length new ≡ times = omega (arith, ap (λ (zs : List Call). length zs) grown, length-append xs new) in
     ap (with_entries d)
     (ap (map entry_of) grown
-     ∙ map-append entry_of xs new
-     ∙ ap (λ (es : List Entry). map entry_of xs ++ es) (ticks_of R is f new made.1 made.3 ∙ ap (λ (k : ℕ). replicate k ticks) many))
+    ∙ map-append entry_of xs new
+    ∙ ap (λ (es : List Entry). map entry_of xs ++ es) (ticks_of R is f new made.1 made.3 ∙ ap (λ (k : ℕ). replicate k ticks) many))

@@ -3,7 +3,7 @@ use Rattle.std.proofs.Common.{◌≡◌, ℕ, ◌<◌, ◌≤◌, List, [], ◌�
 use Rattle.std.specs.Char.{is_whitespace, is_not_whitespace}
 use Rattle.std.specs.Str.{NoCharPasses, EmptyOrStartsWithPassing}
 use Rattle.scanner.specs.Lines.{Uncommented, none, one, one_or, two, three, four, spelled, arity_of, line_of}
-use Rattle.scanner.specs.Parsing.{First, Reads, Misread, ReadUpTo, Numbered, Verbed, BadNumber, WrongAfter, Wrong, Parsed}
+use Rattle.scanner.specs.Parsing.{First, Reads, ReadUpTo, Numbered, Verbed, WrongAfter, Wrong, Parsed}
 use Rattle.scanner.specs.declared.script.Line.{Line}
 use Rattle.scanner.specs.declared.script.LineError.{LineError}
 use Rattle.scanner.specs.declared.script.LineError.TheVariants.{UnknownWord, NoNumber, TooFewNumbers, LeftOver}

@@ -1,4 +1,5 @@
-ghost use Rattle.std.specs.Prelude.{◌<◌};
+ghost use Rattle.std.specs.Prelude.{◌≡◌, ◌<◌};
+ghost use Rattle.std.specs.Iterator.Adapters.{skip_source, skip_count, take_count};
 
 use crate::print::Said;
 use controller::job::{Event, Ticked};
@@ -8,8 +9,8 @@ use std::io::Write;
 use std::iter::{Skip, Take, Zip};
 use std::slice::Iter;
 
-// A part of a run: the calls from one on, up to another, and what they answered. Numbers, not
-// slices: that they lie in the run would have to be carried from line to line.
+// A part of a run: the calls from one on, up to another, and what they answered. Positions, not
+// slices: `take` and `skip` need no proof that both lie in the run, in order.
 #[derive(Clone, Copy)]
 pub struct Part<'a> {
     pub calls: &'a [Call],
@@ -19,7 +20,10 @@ pub struct Part<'a> {
 }
 
 impl<'a> Part<'a> {
-    pub fn steps(self) -> Skip<Take<Zip<Iter<'a, Call>, Iter<'a, Answer>>>> {
+    pub fn steps(self) -> Skip<Take<Zip<Iter<'a, Call>, Iter<'a, Answer>>>>
+        ensures from { skip_count result ≡ self.entry.from }
+        ensures until { take_count (skip_source result) ≡ self.entry.until }
+    {
         self.calls
             .iter()
             .zip(self.answers)

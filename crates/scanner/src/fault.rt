@@ -1,7 +1,6 @@
 use crate::plan::PlanError;
 use crate::script::LineError;
-use std::fmt;
-use std::io;
+use std::{fmt, io};
 
 // Why the script ends before its end: a line that cannot be read, says nothing, or cannot be added.
 #[derive(Clone, Copy)]

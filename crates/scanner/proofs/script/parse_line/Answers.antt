@@ -8,18 +8,18 @@ pub returns-in_err-numbers : goal.returns-in_err-numbers
 returns-in_err-numbers c =
     let p = err_from_is_err_and c.from_residual-in_err-numbers.result c.from_residual-in_err-numbers.ensures.1 in
     rw (p.1, p.2)
-    (broken c.args.text.now c.before_comment.result.now (split_whitespace_rest c.split_whitespace-words.result) (split_whitespace_rest c.next.new.self) c.in-Some.word.now c.in_ok-verb.verb
-     c.before_comment.ensures c.split_whitespace-words.ensures.rest c.in-Some.ensures.steps (search rules)
-     c.in_err-numbers.field-0.0 c.in_err-numbers.ensures.read)
+    (broken _ c.before_comment.result.now _ (split_whitespace_rest c.next.new.self) c.in-Some.word.now c.in_ok-verb.verb
+    c.before_comment.ensures c.split_whitespace-words.ensures.rest c.in-Some.ensures.steps (search rules)
+    c.in_err-numbers.field-0.0 c.in_err-numbers.ensures.read)
 
 pub returns-in-Some-line_of : goal.returns-in-Some-line_of
 returns-in-Some-line_of c =
-    said c.args.text.now c.before_comment.result.now (split_whitespace_rest c.split_whitespace-words.result) (split_whitespace_rest c.next.new.self) c.in-Some.word.now c.in_ok-verb.verb
+    said _ c.before_comment.result.now _ (split_whitespace_rest c.next.new.self) c.in-Some.word.now c.in_ok-verb.verb
     c.before_comment.ensures c.split_whitespace-words.ensures.rest c.in-Some.ensures.steps (search rules)
     c.in_ok-numbers.numbers.items c.in-Some-line_of.line c.in_ok-numbers.ensures.read (search rules)
 
 pub returns-in-None : goal.returns-in-None
 returns-in-None c =
-    too_few c.args.text.now c.before_comment.result.now (split_whitespace_rest c.split_whitespace-words.result) (split_whitespace_rest c.next.new.self) c.in-Some.word.now c.in_ok-verb.verb
+    too_few _ c.before_comment.result.now _ (split_whitespace_rest c.next.new.self) c.in-Some.word.now c.in_ok-verb.verb
     c.before_comment.ensures c.split_whitespace-words.ensures.rest c.in-Some.ensures.steps (search rules)
     c.in_ok-numbers.numbers.items c.len.result c.in_ok-numbers.ensures.read (search rules) (sym c.len.ensures.value) (search rules)
