@@ -3,7 +3,7 @@ use Rattle.std.proofs.Common.{◌≡◌, ℕ, ◌<◌, ◌≤◌, List, [], ◌�
 use Rattle.std.specs.Char.{is_whitespace, is_not_whitespace}
 use Rattle.std.specs.Str.{NoCharPasses, EmptyOrStartsWithPassing}
 use Rattle.scanner.specs.Lines.{Uncommented, none, one, one_or, two, three, four, spelled, arity_of, line_of}
-use Rattle.scanner.specs.Parsing.{First, Reads, Misread, ReadUpTo, Numbered, Verbed, BadNumber, WrongAfter, Wrong, Parsed}
+use Rattle.scanner.specs.Parsing.{First, Reads, ReadUpTo, Numbered, Verbed, WrongAfter, Wrong, Parsed}
 use Rattle.scanner.specs.declared.script.Line.{Line}
 use Rattle.scanner.specs.declared.script.LineError.{LineError}
 use Rattle.scanner.specs.declared.script.LineError.TheVariants.{UnknownWord, NoNumber, TooFewNumbers, LeftOver}
@@ -11,26 +11,18 @@ use Rattle.scanner.specs.declared.script.Verb.{Verb}
 use Rattle.scanner.specs.declared.script.Verb.TheVariants as verb
 
 -- what `split_whitespace` says of an item
-pub first_of : (bs w rest : List ℕ) → (gap : List ℕ) × (bs ≡ gap ++ (w ++ rest)) × (0 < length w) × NoCharPasses is_not_whitespace gap × NoCharPasses is_whitespace w × ((more : List ℕ) × EmptyOrStartsWithPassing is_whitespace rest more) → First bs w rest
-first_of bs w rest cut = record { gap = cut.0; cut = cut.1; some = cut.2; blank = cut.3; solid = cut.4; ends = cut.5 }
+abbrev Item : List ℕ → List ℕ → List ℕ → Type 0
+Item bs w rest =
+    (gap : List ℕ) × (bs ≡ gap ++ (w ++ rest)) × (0 < length w) × NoCharPasses is_not_whitespace gap × NoCharPasses is_whitespace w × ((more : List ℕ) × EmptyOrStartsWithPassing is_whitespace rest more)
 
--- the same of a text that is known under another name
-pub first_in : (bs whole w rest : List ℕ) → whole ≡ bs → (gap : List ℕ) × (whole ≡ gap ++ (w ++ rest)) × (0 < length w) × NoCharPasses is_not_whitespace gap × NoCharPasses is_whitespace w × ((more : List ℕ) × EmptyOrStartsWithPassing is_whitespace rest more) → First bs w rest
-first_in bs whole w rest e cut = subst (λ x. First x w rest) e (first_of whole w rest cut)
+pub first_of : (bs w rest : List ℕ) → Item bs w rest → First bs w rest
+first_of bs w rest cut = record { gap = cut.0; cut = cut.1; some = cut.2; blank = cut.3; solid = cut.4; ends = cut.5 }
 
 -- one number more
 pub read_more : (bs ns rest w next : List ℕ) (n : ℕ) → ReadUpTo bs ns rest → First rest w next → Reads w n → ReadUpTo bs (ns ++ n ∷ []) next
 read_more bs [] rest w next n h first reads = (w, next, subst (λ x. First x w next) (sym h) first, reads, refl)
 read_more bs (m ∷ ms) rest w next n h first reads =
     (h.0, h.1, h.2, h.3, read_more h.1 ms rest w next n h.4 first reads)
-
--- a word that is no number, after fewer numbers than the verb takes
-pub misread : (v : Verb) (bs ns rest w next : List ℕ) (e : LineError) → ReadUpTo bs ns rest → length ns < arity_of v → First rest w next → Misread w e → WrongAfter v bs e
-misread v bs ns rest w next (UnknownWord x) h few first e = e
-misread v bs ns rest w next (NoNumber x) h few first e =
-    subst (λ y. BadNumber v bs y) (sym e.0) (ns, rest, next, h, few, first, e.1)
-misread v bs ns rest w next (TooFewNumbers u found) h few first e = absurd e
-misread v bs ns rest w next (LeftOver u x) h few first e = absurd e
 
 -- what is wrong after the verb is wrong with the line
 pub wrong_after : (bs rest : List ℕ) (v : Verb) (e : LineError) → Verbed bs v rest → WrongAfter v rest e → Wrong bs e
@@ -79,9 +71,10 @@ short verb.Read ns e h = one_short ns _ e h
 short verb.Demand ns e h = two_short ns _ e h
 short verb.Chart ns e h = none_short ns _ e h
 
-module _ (text bs rest : List ℕ) (w : List ℕ) (v : Verb) (kept : Uncommented text bs) (first : First bs w rest) (named : w ≡ spelled v) where
+-- a text whose first word is a verb: `whole` is what is split, and `bs` what stands before the comment
+module _ (text bs whole rest w : List ℕ) (v : Verb) (kept : Uncommented text bs) (same : whole ≡ bs) (item : Item whole w rest) (named : w ≡ spelled v) where
   verbed : Verbed bs v rest
-  verbed = subst (λ x. First bs x rest) named first
+  verbed = subst (λ x. First bs x rest) named (subst (λ x. First x w rest) same (first_of whole w rest item))
 
   -- a verb with numbers that make a line
   pub said : (ns : List ℕ) (line : Line) → Numbered rest ns → line_of v ns ≡ Some line → Parsed text (Ok (Some line))

@@ -1,57 +1,80 @@
-ghost use Rattle.std.specs.Prelude.{◌<◌};
+ghost use Rattle.std.specs.Prelude.{◌≡◌, ◌<◌};
+ghost use Rattle.std.specs.Iterator.Adapters.{skip_source, skip_count, take_count};
 
 use crate::print::Said;
 use controller::job::{Event, Ticked};
 use runs::calls::{Answer, Call};
 use std::io;
 use std::io::Write;
+use std::iter::{Skip, Take, Zip};
+use std::slice::Iter;
 
-// The part of a run that a chart shows: the calls from a batch's open on, up to a call.
+// A part of a run: the calls from one on, up to another, and what they answered. Positions, not
+// slices: `take` and `skip` need no proof that both lie in the run, in order.
 #[derive(Clone, Copy)]
-pub struct Span {
+pub struct Part<'a> {
+    pub calls: &'a [Call],
+    pub answers: &'a [Answer],
     pub from: usize,
     pub until: usize,
-    // How many tasks the table has.
-    pub rows: usize,
 }
 
-// Where the latest job of a place stands as the ticks go by.
-#[derive(Clone, Copy)]
+impl<'a> Part<'a> {
+    pub fn steps(self) -> Skip<Take<Zip<Iter<'a, Call>, Iter<'a, Answer>>>>
+        ensures from { skip_count result ≡ self.entry.from }
+        ensures until { take_count (skip_source result) ≡ self.entry.until }
+    {
+        self.calls
+            .iter()
+            .zip(self.answers)
+            .take(self.until)
+            .skip(self.from)
+    }
+
+    fn ticks(self) -> usize {
+        self.steps()
+            .filter(|step| matches!(step.1, Answer::Worked { .. }))
+            .count()
+    }
+}
+
+// How the latest job of a place stands.
+#[derive(Clone, Copy, Debug, Default, PartialEq, Eq)]
+enum State {
+    // It has finished, or there is none.
+    #[default]
+    Resting,
+    Waiting,
+    // It worked on the last tick.
+    AtWork,
+}
+
+// The latest job of a place as the ticks go by.
+#[derive(Clone, Copy, Debug, Default)]
 struct Row {
     place: usize,
     clock: u32,
     // It was released since the last tick.
     fresh: bool,
-    // Its absolute deadline, 0 before the first release.
-    due: u32,
-    pending: bool,
-    // It worked on the last tick, and is pending.
-    at_work: bool,
+    // Its absolute deadline.
+    due: Option<u32>,
+    state: State,
 }
 
 const LEGEND: &str =
     "jobs: > released before this tick, < last tick in time, x both\nwork: = computes, a attempt under way, C commits, R retries, p preempted, - waits, . no job\n";
 
 impl Row {
-    fn new(place: usize) -> Row {
-        Row {
-            place,
-            clock: 0,
-            fresh: false,
-            due: 0,
-            pending: false,
-            at_work: false,
-        }
-    }
-
     fn released(self, deadline: u32) -> Row {
+        let state = match self.state {
+            State::Resting => State::Waiting,
+            pending => pending,
+        };
         Row {
-            place: self.place,
-            clock: self.clock,
             fresh: true,
-            due: deadline,
-            pending: true,
-            at_work: self.at_work,
+            due: Some(deadline),
+            state,
+            ..self
         }
     }
 
@@ -63,70 +86,64 @@ impl Row {
     }
 
     // Release and deadline, as they fall on the next tick.
-    fn job_mark(self) -> &'static str {
-        let last = self.due == self.clock.saturating_add(1);
+    fn job_mark(self) -> char {
+        let last = self.due == Some(self.clock.saturating_add(1));
         match (self.fresh, last) {
-            (true, true) => "x",
-            (true, false) => ">",
-            (false, true) => "<",
-            (false, false) => " ",
+            (true, true) => 'x',
+            (true, false) => '>',
+            (false, true) => '<',
+            (false, false) => ' ',
         }
     }
 
     // What a tick did to the job.
-    fn work_mark(self, tick: Ticked) -> &'static str {
+    fn work_mark(self, tick: Ticked) -> char {
         if !self.works(tick) {
-            return if !self.pending {
-                "."
-            } else if self.at_work {
-                "p"
-            } else {
-                "-"
+            return match self.state {
+                State::Resting => '.',
+                State::AtWork => 'p',
+                State::Waiting => '-',
             };
         }
         match tick.event {
-            Event::Computed => "=",
-            Event::Attempted => "a",
-            Event::Committed { .. } => "C",
-            Event::Retried { .. } => "R",
-            Event::Idle => ".",
+            Event::Computed => '=',
+            Event::Attempted => 'a',
+            Event::Committed { .. } => 'C',
+            Event::Retried { .. } => 'R',
+            Event::Idle => '.',
         }
     }
 
     fn ticked(self, tick: Ticked) -> Row {
-        let works = self.works(tick);
-        let pending = self.pending && !(works && tick.finished);
+        let state = match (self.state, self.works(tick)) {
+            (State::Resting, _) => State::Resting,
+            (_, false) => State::Waiting,
+            (_, true) if tick.finished => State::Resting,
+            (_, true) => State::AtWork,
+        };
         Row {
-            place: self.place,
             clock: self.clock.saturating_add(1),
             fresh: false,
-            due: self.due,
-            pending,
-            at_work: works && pending,
+            state,
+            ..self
         }
     }
 }
 
-// The two lines of a task.
-#[derive(Clone, Copy)]
-enum Kind {
-    Jobs,
-    Work,
-}
-
-fn write_row<W: Write>(
+// One line of a task: `mark` says what stands in the column of a tick.
+fn write_row<W: Write, F: Fn(Row, Ticked) -> char>(
     out: &mut W,
-    calls: &[Call],
-    answers: &[Answer],
-    span: Span,
+    part: Part<'_>,
     place: usize,
-    kind: Kind,
-) -> io::Result<()> {
-    let mut row = Row::new(place);
-    for (k, (call, answer)) in calls.iter().zip(answers).enumerate() {
-        if k < span.from || k >= span.until {
-            continue;
-        }
+    mark: F,
+) -> io::Result<()>
+    requires { F.IsAlwaysCallable mark }
+{
+    let mut row = Row {
+        place,
+        ..Row::default()
+    };
+    for (call, answer) in part.steps() {
         match (call, answer) {
             (Call::Release { place }, Answer::Released { deadline }) => {
                 if *place as usize == row.place {
@@ -134,11 +151,7 @@ fn write_row<W: Write>(
                 }
             }
             (_, Answer::Worked { tick }) => {
-                let mark = match kind {
-                    Kind::Jobs => row.job_mark(),
-                    Kind::Work => row.work_mark(*tick),
-                };
-                write!(out, "{mark}")?;
+                write!(out, "{}", mark(row, *tick))?;
                 row = row.ticked(*tick);
             }
             _ => {}
@@ -148,33 +161,22 @@ fn write_row<W: Write>(
 }
 
 // The numbers of the ticks, a digit a column.
-fn write_ruler<W: Write>(out: &mut W, answers: &[Answer], span: Span, unit: u32) -> io::Result<()>
+fn write_ruler<W: Write>(out: &mut W, ticks: usize, unit: usize) -> io::Result<()>
     requires { 0 < unit }
 {
-    let mut clock: u32 = 0;
-    for (k, answer) in answers.iter().enumerate() {
-        if k < span.from || k >= span.until {
-            continue;
-        }
-        if let Answer::Worked { .. } = answer {
-            clock = clock.saturating_add(1);
-            let digit = clock / unit % 10;
-            if clock % unit == 0 {
-                write!(out, "{digit}")?;
-            } else {
-                write!(out, " ")?;
-            }
+    for clock in 1..=ticks {
+        if clock % unit == 0 {
+            write!(out, "{}", clock / unit % 10)?;
+        } else {
+            write!(out, " ")?;
         }
     }
     writeln!(out, "")
 }
 
 // How the batch was closed, if it was.
-fn write_sums<W: Write>(out: &mut W, answers: &[Answer], span: Span) -> io::Result<()> {
-    for (k, answer) in answers.iter().enumerate() {
-        if k < span.from || k >= span.until {
-            continue;
-        }
+fn write_sums<W: Write>(out: &mut W, part: Part<'_>) -> io::Result<()> {
+    for (_, answer) in part.steps() {
         if let Answer::Closed { .. } = answer {
             let said = Said {
                 clock: 0,
@@ -186,23 +188,19 @@ fn write_sums<W: Write>(out: &mut W, answers: &[Answer], span: Span) -> io::Resu
     Ok(())
 }
 
-// A timeline: two lines a task, a column a tick.
-pub fn write_chart<W: Write>(
-    out: &mut W,
-    calls: &[Call],
-    answers: &[Answer],
-    span: Span,
-) -> io::Result<()> {
+// A timeline of a batch: two lines a task, a column a tick.
+pub fn write_chart<W: Write>(out: &mut W, part: Part<'_>, rows: usize) -> io::Result<()> {
+    let ticks = part.ticks();
     write!(out, "tick          ")?;
-    write_ruler(out, answers, span, 10)?;
+    write_ruler(out, ticks, 10)?;
     write!(out, "              ")?;
-    write_ruler(out, answers, span, 1)?;
-    for place in 0..span.rows {
+    write_ruler(out, ticks, 1)?;
+    for place in 0..rows {
         write!(out, "task {place:2} jobs  ")?;
-        write_row(out, calls, answers, span, place, Kind::Jobs)?;
+        write_row(out, part, place, |row, _| row.job_mark())?;
         write!(out, "        work  ")?;
-        write_row(out, calls, answers, span, place, Kind::Work)?;
+        write_row(out, part, place, |row, tick| row.work_mark(tick))?;
     }
     write!(out, "{LEGEND}")?;
-    write_sums(out, answers, span)
+    write_sums(out, part)
 }

@@ -1,11 +1,13 @@
 #![tactic(auto)]
 
 mod chart;
+mod fault;
 mod plan;
 mod print;
 mod report;
 mod script;
 
+use crate::fault::Fault;
 use crate::plan::Plan;
 use crate::report::write_report;
 use crate::script::parse_line;
@@ -16,36 +18,29 @@ use shelf::cell::Cell;
 use shelf::pair::Pair;
 use shelf::queue::Queue;
 use std::alloc::Global;
-use std::fmt;
+use std::io;
 use std::io::{BufRead, BufReader, BufWriter, Write};
 use std::process::ExitCode;
 
-// What is wrong with a line, ready to be said once all that came before it is printed.
-fn fault<F: fmt::Display>(heap: Global, number: u64, fault: &F) -> anyhow::Result<Option<String>> {
-    Ok(Some(format!(in heap; "line {number}: {fault}")?))
+// Adds what a line says to the plan.
+fn add_line<'a>(plan: &mut Plan, read: &'a io::Result<String>) -> Result<(), Fault<'a>> {
+    let text = read.as_ref()?;
+    if let Some(line) = parse_line(text.as_str())? {
+        plan.add(line)?;
+    }
+    Ok(())
 }
 
-// Reads the script line by line, until it ends or a line is bad.
-fn read_script(rt: &HostRuntime, plan: &mut Plan) -> anyhow::Result<Option<String>> {
+// Reads the script line by line, until it ends or a line is bad; then says what is wrong with that.
+fn read_script(rt: &HostRuntime, plan: &mut Plan) -> anyhow::Result<Result<(), String>> {
     let heap = rt.alloc();
-    let mut number: u64 = 0;
-    for read in BufReader::new(heap, rt.stdin())?.lines(heap) {
-        number = number.saturating_add(1);
-        let text = match read {
-            Ok(text) => text,
-            Err(error) => return fault(heap, number, &error),
-        };
-        let line = match parse_line(text.as_str()) {
-            Ok(None) => continue,
-            Ok(Some(line)) => line,
-            Err(error) => return fault(heap, number, &error),
-        };
-        match plan.add(line) {
-            Ok(()) => {}
-            Err(error) => return fault(heap, number, &error),
+    let lines = BufReader::new(heap, rt.stdin())?.lines(heap);
+    for (number, read) in (1..=u64::MAX).zip(lines) {
+        if let Err(fault) = add_line(plan, &read) {
+            return Ok(Err(format!(in heap; "line {number}: {fault}")?));
         }
     }
-    Ok(None)
+    Ok(Ok(()))
 }
 
 // Makes the calls, and prints what they answer.
@@ -71,19 +66,20 @@ fn perform<W: Write>(rt: &HostRuntime, out: &mut W, plan: &mut Plan) -> anyhow::
     }
 }
 
-// Follows the script up to its end, or up to a line that is bad; says what is wrong with that.
-fn follow<W: Write>(rt: &HostRuntime, out: &mut W) -> anyhow::Result<Option<String>> {
+// Follows the script up to its end, or up to a line that is bad. That is no failure of the program,
+// which first prints all that came before it: so one result lies in the other.
+fn follow<W: Write>(rt: &HostRuntime, out: &mut W) -> anyhow::Result<Result<(), String>> {
     let mut plan = Plan::new(rt.alloc());
-    let bad = read_script(rt, &mut plan)?;
+    let read = read_script(rt, &mut plan)?;
     perform(rt, out, &mut plan)?;
-    Ok(bad)
+    Ok(read)
 }
 
 fn main(rt: HostRuntime) -> anyhow::Result<ExitCode> {
     let mut out = BufWriter::new(rt.alloc(), rt.stdout())?;
     match follow(&rt, &mut out)? {
-        None => Ok(ExitCode::SUCCESS),
-        Some(bad) => {
+        Ok(()) => Ok(ExitCode::SUCCESS),
+        Err(bad) => {
             eprintln!(rt; "{bad}")?;
             Ok(ExitCode::FAILURE)
         }

@@ -11,7 +11,7 @@ use std::alloc::{AllocError, AllocFailed, Global};
 pub const MOST_CALLS: usize = 1_000_000;
 
 // Why a line cannot be added.
-#[derive(Clone, Copy)]
+#[derive(Clone, Copy, Debug, PartialEq, Eq)]
 pub enum PlanError {
     OutOfMemory,
     TooManyCalls,
@@ -19,7 +19,7 @@ pub enum PlanError {
 
 // The tokens held once the calls planned so far are made. `open` gives a good one exactly while no
 // batch is open, and a good one always closes its batch, so this follows from the lines alone.
-#[derive(Clone, Copy)]
+#[derive(Clone, Copy, Debug, Default, PartialEq, Eq)]
 struct Tokens {
     // The position of the good one.
     good: Option<usize>,
@@ -58,11 +58,11 @@ impl Tokens {
         match self.good {
             None => Tokens {
                 good: Some(self.voids),
-                voids: self.voids,
+                ..self
             },
-            Some(position) => Tokens {
-                good: Some(position),
+            Some(_) => Tokens {
                 voids: self.voids.saturating_add(1),
+                ..self
             },
         }
     }
@@ -71,10 +71,7 @@ impl Tokens {
     fn next(self) -> usize
         ensures { result ≡ token_next self.good }
     {
-        match self.good {
-            None => 0,
-            Some(position) => position,
-        }
+        self.good.unwrap_or(0)
     }
 
     fn closed(self) -> Tokens
@@ -98,10 +95,7 @@ impl Plan {
             rule: 0,
             tasks: Vec::new(heap),
             segments: Vec::new(heap),
-            tokens: Tokens {
-                good: None,
-                voids: 0,
-            },
+            tokens: Tokens::default(),
             calls: Vec::new(heap),
             charts: Vec::new(heap),
         }
@@ -152,10 +146,8 @@ impl Plan {
     fn adopt(&mut self) -> Result<(), PlanError>
         ensures { draft self.new ≡ (if is_ok result then drafted Line.Adopt (draft self.old) else draft self.old) }
     {
-        let mut tasks = Vec::new(self.heap);
-        tasks.extend_from_slice(self.tasks.as_slice())?;
-        let mut segments = Vec::new(self.heap);
-        segments.extend_from_slice(self.segments.as_slice())?;
+        let tasks = self.tasks.as_slice().to_vec(self.heap)?;
+        let segments = self.segments.as_slice().to_vec(self.heap)?;
         self.call(Call::Adopt {
             rule: self.rule,
             tasks,
@@ -170,10 +162,8 @@ impl Plan {
         if more > MOST_CALLS || self.calls.len() > MOST_CALLS - more {
             return Err(PlanError::TooManyCalls);
         }
-        self.calls.reserve(more)?;
-        for _ in 0..more {
-            self.calls.push_reserved(Call::Tick);
-        }
+        self.calls
+            .resize_with(self.calls.len() + more, || Call::Tick)?;
         Ok(())
     }
 }

@@ -15,14 +15,15 @@ pub struct Said {
     pub answer: Answer,
 }
 
-// A tick, with the clock after it.
+// A tick, with the clock after it. A wrapper, since `Ticked` is of another crate, which prints
+// nothing.
 #[derive(Clone, Copy)]
 struct TickTold {
     clock: u32,
     tick: Ticked,
 }
 
-// The sums of a batch.
+// The sums of a batch; a wrapper, since `Sums` is of another crate.
 #[derive(Clone, Copy)]
 struct SumsTold {
     sums: Sums,
@@ -35,6 +36,7 @@ pub struct Stamp {
     pub task: Task,
 }
 
+// A word, since a `bool` prints as "true" and "false".
 fn yes_no(yes: bool) -> &'static str
     ensures { result.now ≡ yes_no_text yes }
 {
@@ -45,15 +47,16 @@ impl fmt::Display for TickTold {
     ghost output = { λ told. Some (tick_text told.clock told.tick) };
 
     fn fmt<W: fmt::Write>(&self, f: &mut fmt::Formatter<W>) -> fmt::Result {
-        let clock = self.clock;
-        let place = self.tick.place;
-        let event = self.tick.event.number();
-        let object = self.tick.event.object();
-        let word = self.tick.event.word();
-        let finished = yes_no(self.tick.finished);
+        let event = self.tick.event;
         write!(
             f,
-            "tick {clock} place {place} event {event} object {object} word {word} finished {finished}"
+            "tick {} place {} event {} object {} word {} finished {}",
+            self.clock,
+            self.tick.place,
+            event.number(),
+            event.object(),
+            event.word(),
+            yes_no(self.tick.finished)
         )
     }
 }
@@ -62,15 +65,15 @@ impl fmt::Display for SumsTold {
     ghost output = { λ told. Some (sums_text told.sums) };
 
     fn fmt<W: fmt::Write>(&self, f: &mut fmt::Formatter<W>) -> fmt::Result {
-        let ticks = self.sums.ticks;
-        let releases = self.sums.releases;
-        let finished = self.sums.finished;
-        let pending = self.sums.pending;
-        let retries = self.sums.retries;
-        let preemptions = self.sums.preemptions;
         write!(
             f,
-            "closed ticks {ticks} releases {releases} finished {finished} pending {pending} retries {retries} overtakings {preemptions}"
+            "closed ticks {} releases {} finished {} pending {} retries {} overtakings {}",
+            self.sums.ticks,
+            self.sums.releases,
+            self.sums.finished,
+            self.sums.pending,
+            self.sums.retries,
+            self.sums.preemptions
         )
     }
 }
@@ -98,9 +101,7 @@ impl fmt::Display for Said {
             Answer::Demanded { work, charge } => write!(f, "demand {work} {charge}"),
             Answer::NoToken => write!(f, "no token"),
             Answer::Refused { refusal } => {
-                let number = refusal.number();
-                let detail = refusal.detail();
-                write!(f, "refused {number} {detail}")
+                write!(f, "refused {} {}", refusal.number(), refusal.detail())
             }
         }
     }
@@ -110,10 +111,11 @@ impl fmt::Display for Stamp {
     ghost output = { λ stamp. Some (stamp_text stamp) };
 
     fn fmt<W: fmt::Write>(&self, f: &mut fmt::Formatter<W>) -> fmt::Result {
-        let place = self.place;
-        let rank = self.task.rank;
-        let witness = self.task.witness;
-        write!(f, "task {place} rank {rank} witness {witness}")
+        write!(
+            f,
+            "task {} rank {} witness {}",
+            self.place, self.task.rank, self.task.witness
+        )
     }
 }
 
@@ -128,15 +130,15 @@ impl fmt::Display for LineError<'_> {
                 f,
                 "{word:?} is not a number from 0 to 4294967295"
             ),
-            LineError::TooFewNumbers { verb, found } => {
-                let name = verb.name();
-                let arity = verb.arity();
-                write!(f, "too few numbers after {name:?}: {found} of {arity}")
-            }
-            LineError::LeftOver { verb, word } => {
-                let name = verb.name();
-                write!(f, "too much after {name:?}: {word:?} is left over")
-            }
+            LineError::TooFewNumbers { verb, found } => write!(
+                f,
+                "too few numbers after \"{verb}\": {found} of {}",
+                verb.arity()
+            ),
+            LineError::LeftOver { verb, word } => write!(
+                f,
+                "too much after \"{verb}\": {word:?} is left over"
+            ),
         }
     }
 }

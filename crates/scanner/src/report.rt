@@ -1,19 +1,18 @@
-use crate::chart::{Span, write_chart};
+use crate::chart::{Part, write_chart};
 use crate::print::{Said, Stamp};
-use admission::task::Task;
 use runs::calls::{Answer, Call};
 use std::io;
 use std::io::Write;
 
 // The call that opened a batch, and how many tasks its table has.
-#[derive(Clone, Copy)]
+#[derive(Clone, Copy, Debug)]
 struct Batch {
     from: usize,
     rows: usize,
 }
 
 // How far the report is.
-#[derive(Clone, Copy)]
+#[derive(Clone, Copy, Debug, Default)]
 struct Progress {
     // The next call.
     next: usize,
@@ -28,52 +27,48 @@ struct Progress {
 impl Progress {
     // After the answer of the next call.
     fn past(self, call: &Call, answer: Answer) -> Progress {
-        let mut after = self;
-        after.next = self.next.saturating_add(1);
+        let after = Progress {
+            next: self.next.saturating_add(1),
+            ..self
+        };
         match (call, answer) {
-            (Call::Adopt { tasks, .. }, Answer::Taken { .. }) => after.tasks = tasks.len(),
-            (_, Answer::Opened) => {
-                after.batch = Some(Batch {
+            (Call::Adopt { tasks, .. }, Answer::Taken { .. }) => Progress {
+                tasks: tasks.len(),
+                ..after
+            },
+            (_, Answer::Opened) => Progress {
+                clock: 0,
+                batch: Some(Batch {
                     from: self.next,
                     rows: self.tasks,
-                });
-                after.clock = 0;
-            }
-            (_, Answer::Worked { .. }) => after.clock = self.clock.saturating_add(1),
-            _ => {}
+                }),
+                ..after
+            },
+            (_, Answer::Worked { .. }) => Progress {
+                clock: self.clock.saturating_add(1),
+                ..after
+            },
+            _ => after,
         }
-        after
     }
 }
 
 // An answer on its line; after a table was taken, also a line for each of its tasks.
 fn write_answer<W: Write>(out: &mut W, call: &Call, said: Said) -> io::Result<()> {
     writeln!(out, "{said}")?;
-    match (call, said.answer) {
-        (Call::Adopt { tasks, .. }, Answer::Taken { .. }) => {
-            for (place, task) in tasks.iter().enumerate() {
-                let stamp = Stamp { place, task: *task };
-                writeln!(out, "{stamp}")?;
-            }
-            Ok(())
+    if let (Call::Adopt { tasks, .. }, Answer::Taken { .. }) = (call, said.answer) {
+        for (place, task) in tasks.iter().enumerate() {
+            let stamp = Stamp { place, task: *task };
+            writeln!(out, "{stamp}")?;
         }
-        _ => Ok(()),
     }
+    Ok(())
 }
 
-// The answers up to a call.
-fn write_answers<W: Write>(
-    out: &mut W,
-    calls: &[Call],
-    answers: &[Answer],
-    start: Progress,
-    until: usize,
-) -> io::Result<Progress> {
+// The answers of the next part.
+fn write_answers<W: Write>(out: &mut W, part: Part<'_>, start: Progress) -> io::Result<Progress> {
     let mut progress = start;
-    for (k, (call, answer)) in calls.iter().zip(answers).enumerate() {
-        if k < progress.next || k >= until {
-            continue;
-        }
+    for (call, answer) in part.steps() {
         progress = progress.past(call, *answer);
         let said = Said {
             clock: progress.clock,
@@ -92,22 +87,29 @@ pub fn write_report<W: Write>(
     answers: &[Answer],
     charts: &[usize],
 ) -> io::Result<()> {
-    let mut progress = Progress {
-        next: 0,
-        tasks: 0,
-        clock: 0,
-        batch: None,
+    let whole = Part {
+        calls,
+        answers,
+        from: 0,
+        until: calls.len(),
     };
+    let mut progress = Progress::default();
     for until in charts {
-        progress = write_answers(out, calls, answers, progress, *until)?;
+        let next = Part {
+            from: progress.next,
+            until: *until,
+            ..whole
+        };
+        progress = write_answers(out, next, progress)?;
         match progress.batch {
             None => writeln!(out, "no batch")?,
-            Some(Batch { from, rows }) => {
-                let until = *until;
-                write_chart(out, calls, answers, Span { from, until, rows })?;
-            }
+            Some(Batch { from, rows }) => write_chart(out, Part { from, ..next }, rows)?,
         }
     }
-    write_answers(out, calls, answers, progress, calls.len())?;
+    let rest = Part {
+        from: progress.next,
+        ..whole
+    };
+    write_answers(out, rest, progress)?;
     Ok(())
 }

@@ -1,16 +1,18 @@
-ghost use Rattle.std.specs.Prelude.{◌≡◌, ◌≤◌, take, IfOk, MatchOption, MatchResult, ◌≢◌};
+ghost use Rattle.std.specs.Prelude.{◌≡◌, ◌≤◌, length, Some, IfOk, MatchResult, ◌≢◌};
 ghost use Rattle.std.specs.Str.Iter.{split_whitespace_rest};
 ghost use Rattle.scanner.specs.Parsing.{Reads, Misread, Numbered, WrongAfter, Parsed};
 ghost use Rattle.scanner.specs.Lines.{Uncommented, spelled, arity_of, line_of};
 
 use admission::task::{Segment, Task};
-use std::str::SplitWhitespace;
+use arrayvec::ArrayVec;
+use std::fmt;
+use std::str::{FromStr, SplitWhitespace};
 
 // As many numbers as the longest line has.
 const MOST: usize = 4;
 
 // The word that a line begins with.
-#[derive(Clone, Copy)]
+#[derive(Clone, Copy, Debug, PartialEq, Eq)]
 pub enum Verb {
     Rule,
     Task,
@@ -25,6 +27,10 @@ pub enum Verb {
     Demand,
     Chart,
 }
+
+// The word is no verb.
+#[derive(Clone, Copy, Debug, PartialEq, Eq)]
+pub struct UnknownVerb;
 
 // A line of a script, understood.
 #[derive(Clone, Copy)]
@@ -44,7 +50,7 @@ pub enum Line {
 }
 
 // Why a text is no line of a script. The words are kept, so that the message can name them.
-#[derive(Clone, Copy)]
+#[derive(Clone, Copy, Debug, PartialEq, Eq)]
 pub enum LineError<'a> {
     UnknownWord { word: &'a str },
     NoNumber { word: &'a str },
@@ -52,39 +58,39 @@ pub enum LineError<'a> {
     LeftOver { verb: Verb, word: &'a str },
 }
 
-// The numbers of a line: the first `count` of `values`.
-#[derive(Clone, Copy)]
-struct Numbers {
-    values: [u32; MOST],
-    count: usize,
-}
+// Two tables, of reading and of writing: each match covers all verbs by itself, where a table to
+// search would need a list of them and the proof that none is left out.
+impl FromStr for Verb {
+    type Err = UnknownVerb;
 
-impl Verb {
-    // The verb that a word spells.
-    pub fn named(word: &str) -> Option<Verb>
-        ensures { MatchOption result ((v : Verb) → word.now ≢ spelled v) (λ v. word.now ≡ spelled v) }
-    {
+    ghost use Rattle.scanner.specs.declared.script.Verb.{Verb};
+
+    ghost from_str_gives = { λ word r. MatchResult r (λ v. word ≡ spelled v) (λ _. (v : Verb) → word ≢ spelled v) };
+
+    fn from_str(word: &str) -> Result<Verb, UnknownVerb> {
         match word {
-            "rule" => Some(Verb::Rule),
-            "task" => Some(Verb::Task),
-            "segment" => Some(Verb::Segment),
-            "clear" => Some(Verb::Clear),
-            "adopt" => Some(Verb::Adopt),
-            "open" => Some(Verb::Open),
-            "release" => Some(Verb::Release),
-            "tick" => Some(Verb::Tick),
-            "close" => Some(Verb::Close),
-            "read" => Some(Verb::Read),
-            "demand" => Some(Verb::Demand),
-            "chart" => Some(Verb::Chart),
-            _ => None,
+            "rule" => Ok(Verb::Rule),
+            "task" => Ok(Verb::Task),
+            "segment" => Ok(Verb::Segment),
+            "clear" => Ok(Verb::Clear),
+            "adopt" => Ok(Verb::Adopt),
+            "open" => Ok(Verb::Open),
+            "release" => Ok(Verb::Release),
+            "tick" => Ok(Verb::Tick),
+            "close" => Ok(Verb::Close),
+            "read" => Ok(Verb::Read),
+            "demand" => Ok(Verb::Demand),
+            "chart" => Ok(Verb::Chart),
+            _ => Err(UnknownVerb),
         }
     }
+}
 
-    pub fn name(self) -> &'static str
-        ensures { result.now ≡ spelled self }
-    {
-        match self {
+impl fmt::Display for Verb {
+    ghost output = { λ verb. Some (spelled verb) };
+
+    fn fmt<W: fmt::Write>(&self, f: &mut fmt::Formatter<W>) -> fmt::Result {
+        f.write_str(match self {
             Verb::Rule => "rule",
             Verb::Task => "task",
             Verb::Segment => "segment",
@@ -97,27 +103,21 @@ impl Verb {
             Verb::Read => "read",
             Verb::Demand => "demand",
             Verb::Chart => "chart",
-        }
+        })
     }
+}
 
+impl Verb {
     // How many numbers follow it; `tick` alone is one tick.
     pub fn arity(self) -> usize
         ensures value { result ≡ arity_of self }
         ensures most { arity_of self ≤ 4 }
     {
         match self {
-            Verb::Rule => 1,
-            Verb::Task => 4,
-            Verb::Segment => 4,
-            Verb::Clear => 0,
-            Verb::Adopt => 0,
-            Verb::Open => 0,
-            Verb::Release => 1,
-            Verb::Tick => 1,
-            Verb::Close => 0,
-            Verb::Read => 1,
+            Verb::Clear | Verb::Adopt | Verb::Open | Verb::Close | Verb::Chart => 0,
+            Verb::Rule | Verb::Release | Verb::Tick | Verb::Read => 1,
             Verb::Demand => 2,
-            Verb::Chart => 0,
+            Verb::Task | Verb::Segment => 4,
         }
     }
 }
@@ -136,27 +136,25 @@ fn before_comment(text: &str) -> &str
 fn read_number(word: &str) -> Result<u32, LineError<'_>>
     ensures { MatchResult result (Reads word.now) (Misread word.now) }
 {
-    match word.parse::<u32>() {
-        Ok(n) => Ok(n),
-        Err(_) => Err(LineError::NoNumber { word }),
-    }
+    word.parse().map_err(|_| LineError::NoNumber { word })
 }
 
 // The numbers that follow the verb. One that is too many is not looked at, only named.
-fn read_numbers<'a>(verb: Verb, words: SplitWhitespace<'a>) -> Result<Numbers, LineError<'a>>
-    ensures few { IfOk result (λ n. (n.count ≤ arity_of verb) × (n.count ≤ 4)) }
-    ensures read { MatchResult result (λ n. Numbered (split_whitespace_rest words.entry) (take n.count n.values)) (WrongAfter verb (split_whitespace_rest words.entry)) }
+fn read_numbers<'a>(
+    verb: Verb,
+    words: SplitWhitespace<'a>,
+) -> Result<ArrayVec<u32, MOST>, LineError<'a>>
+    ensures few { IfOk result (λ ns. length ns.items ≤ arity_of verb) }
+    ensures read { MatchResult result (λ ns. Numbered (split_whitespace_rest words.entry) ns.items) (WrongAfter verb (split_whitespace_rest words.entry)) }
 {
-    let mut values = [0; MOST];
-    let mut count = 0;
+    let mut numbers = ArrayVec::new();
     for word in words {
-        if count >= verb.arity() {
+        if numbers.len() >= verb.arity() {
             return Err(LineError::LeftOver { verb, word });
         }
-        values[count] = read_number(word)?;
-        count += 1;
+        numbers.push(read_number(word)?);
     }
-    Ok(Numbers { values, count })
+    Ok(numbers)
 }
 
 // The line of a verb and its numbers, if they are as many as it takes.
@@ -164,37 +162,34 @@ fn line_of(verb: Verb, numbers: &[u32]) -> Option<Line>
     ensures { result ≡ line_of verb numbers.now }
 {
     match (verb, numbers) {
-        (Verb::Rule, [rule]) => Some(Line::Rule { rule: *rule }),
-        (Verb::Task, [period, deadline, first, count]) => Some(Line::Task {
+        (Verb::Rule, &[rule]) => Some(Line::Rule { rule }),
+        (Verb::Task, &[period, deadline, first, count]) => Some(Line::Task {
             task: Task {
-                period: *period,
-                deadline: *deadline,
-                first: *first,
-                count: *count,
+                period,
+                deadline,
+                first,
+                count,
                 rank: 0,
                 witness: 0,
             },
         }),
-        (Verb::Segment, [kind, size, object, amount]) => Some(Line::Segment {
+        (Verb::Segment, &[kind, size, object, amount]) => Some(Line::Segment {
             segment: Segment {
-                kind: *kind,
-                size: *size,
-                object: *object,
-                amount: *amount,
+                kind,
+                size,
+                object,
+                amount,
             },
         }),
         (Verb::Clear, []) => Some(Line::Clear),
         (Verb::Adopt, []) => Some(Line::Adopt),
         (Verb::Open, []) => Some(Line::Open),
-        (Verb::Release, [place]) => Some(Line::Release { place: *place }),
+        (Verb::Release, &[place]) => Some(Line::Release { place }),
         (Verb::Tick, []) => Some(Line::Tick { times: 1 }),
-        (Verb::Tick, [times]) => Some(Line::Tick { times: *times }),
+        (Verb::Tick, &[times]) => Some(Line::Tick { times }),
         (Verb::Close, []) => Some(Line::Close),
-        (Verb::Read, [object]) => Some(Line::Read { object: *object }),
-        (Verb::Demand, [place, time]) => Some(Line::Demand {
-            place: *place,
-            time: *time,
-        }),
+        (Verb::Read, &[object]) => Some(Line::Read { object }),
+        (Verb::Demand, &[place, time]) => Some(Line::Demand { place, time }),
         (Verb::Chart, []) => Some(Line::Chart),
         _ => None,
     }
@@ -208,15 +203,13 @@ pub fn parse_line(text: &str) -> Result<Option<Line>, LineError<'_>>
     let Some(word) = words.next() else {
         return Ok(None);
     };
-    let Some(verb) = Verb::named(word) else {
-        return Err(LineError::UnknownWord { word });
-    };
-    let found = read_numbers(verb, words)?;
-    match line_of(verb, &found.values[0..found.count]) {
+    let verb = word.parse().map_err(|_| LineError::UnknownWord { word })?;
+    let numbers = read_numbers(verb, words)?;
+    match line_of(verb, numbers.as_slice()) {
         Some(line) => Ok(Some(line)),
         None => Err(LineError::TooFewNumbers {
             verb,
-            found: found.count,
+            found: numbers.len(),
         }),
     }
 }
