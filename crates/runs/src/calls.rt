@@ -4,7 +4,7 @@ use controller::job::{Sums, Ticked};
 
 // A call with its arguments. Close names the token to hand in by its position among those still
 // held, oldest first.
-#[derive(Drop)]
+#[derive(Debug, Drop)]
 pub enum Call {
     Adopt {
         rule: u32,
@@ -30,7 +30,7 @@ pub enum Call {
 
 // What a call answered. `NoToken`: there was no such token to hand in, so no call was made.
 // Flat, no Result of what was granted: `NoToken` is neither granted nor refused.
-#[derive(Clone, Copy)]
+#[derive(Clone, Copy, Debug, PartialEq, Eq)]
 pub enum Answer {
     Taken { answer: u32 },
     Opened,

@@ -9,7 +9,7 @@ use runs::calls::Answer;
 use std::fmt;
 
 // An answer; of a tick, with the clock after it.
-#[derive(Clone, Copy)]
+#[derive(Clone, Copy, Debug, PartialEq, Eq)]
 pub struct Said {
     pub clock: u32,
     pub answer: Answer,
@@ -17,20 +17,20 @@ pub struct Said {
 
 // A tick, with the clock after it. A wrapper, since `Ticked` is of another crate, which prints
 // nothing.
-#[derive(Clone, Copy)]
+#[derive(Clone, Copy, Debug, PartialEq, Eq)]
 struct TickTold {
     clock: u32,
     tick: Ticked,
 }
 
 // The sums of a batch; a wrapper, since `Sums` is of another crate.
-#[derive(Clone, Copy)]
+#[derive(Clone, Copy, Debug, PartialEq, Eq)]
 struct SumsTold {
     sums: Sums,
 }
 
 // A task of a table that was taken, with its place in the list.
-#[derive(Clone, Copy)]
+#[derive(Clone, Copy, Debug, PartialEq, Eq)]
 pub struct Stamp {
     pub place: usize,
     pub task: Task,
