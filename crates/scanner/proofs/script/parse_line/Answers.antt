@@ -1,4 +1,4 @@
-use Rattle.std.proofs.Common.{rules, sym}
+use Rattle.std.proofs.Common.{rules}
 use Rattle.std.proofs.lemmas.Result.{err_from_is_err_and}
 use Rattle.std.specs.Str.Iter.{split_whitespace_rest}
 use Rattle.scanner.proofs.Reading.{said, too_few, broken}
@@ -22,4 +22,4 @@ pub returns-in-None : goal.returns-in-None
 returns-in-None c =
     too_few _ c.before_comment.result.now _ (split_whitespace_rest c.next.new.self) c.in-Some.word.now c.in_ok-verb.verb
     c.before_comment.ensures c.split_whitespace-words.ensures.rest c.in-Some.ensures.steps (search rules)
-    c.in_ok-numbers.numbers.items c.len.result c.in_ok-numbers.ensures.read (search rules) (sym c.len.ensures.value) (search rules)
+    c.in_ok-numbers.numbers.items _ c.in_ok-numbers.ensures.read (search rules) (search rules) (search rules)
