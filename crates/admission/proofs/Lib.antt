@@ -4,6 +4,7 @@ pub mod Bounds
 pub mod Quotients
 pub mod Ranges
 pub mod Filling
+pub mod Greatest
 pub mod Firsts
 pub mod Monotone
 pub mod Witnesses

@@ -63,6 +63,7 @@ fn stamp(tasks: &mut [Task], adopted: &[AdoptedTask], witnesses: &[u32])
     requires { (length tasks.old ≤ length adopted.now) × (length tasks.old ≤ length witnesses.now) }
     ensures { tasks.new ≡ stamped_by adopted.now witnesses.now tasks.old }
 {
+    // Not by `zip`, which does not say what the records end as.
     for (place, task) in tasks.iter_mut().enumerate() {
         task.rank = adopted[place].rank;
         task.witness = witnesses[place];

@@ -9,7 +9,7 @@ use crate::plan::Step;
 pub fn attempt_ticks(size: u32) -> u32
     ensures { result ≡ attempt_ticks_of size }
 {
-    1 + ((size as u64 + 3) / 4) as u32
+    1 + size.div_ceil(4)
 }
 
 impl<'a> Owned<'a> {
@@ -29,11 +29,11 @@ impl<'a> Owned<'a> {
         ensures is { result ≡ longest self.now.segments.now }
         ensures short { result ≤ 65 }
     {
-        let mut most: u32 = 0;
-        for segment in self.segments {
-            most = most.max(Step::from(*segment).attempt());
-        }
-        most
+        let attempts = self
+            .segments
+            .iter()
+            .map(|segment| Step::from(*segment).attempt());
+        attempts.max().unwrap_or(0)
     }
 }
 
@@ -43,6 +43,7 @@ impl<'a> Lists<'a> {
         ensures is { result ≡ longest_attempt_of self.now.segments.now self.now.tasks.now }
         ensures short { result ≤ 65 }
     {
+        // A loop: the proof of a chain does not see that each task is one of the list.
         let mut most: u32 = 0;
         for task in self.tasks {
             most = most.max(self.owned(task).longest_attempt());

@@ -32,13 +32,14 @@ fn range_fits(segments: &[Segment], task: &Task) -> bool
         && task.first as usize + task.count as usize <= segments.len()
 }
 
+// Whether its kind is one of the three, and its size within the limits of the kind.
 fn size_fits(segment: &Segment) -> bool
     ensures { result ≡ has_fit_size segment.now }
 {
-    if segment.kind == 0 {
-        1 <= segment.size && segment.size <= MAX_COMPUTING
-    } else {
-        segment.kind <= 2 && segment.size <= MAX_WORDS
+    match segment.kind {
+        0 => 1 <= segment.size && segment.size <= MAX_COMPUTING,
+        1 | 2 => segment.size <= MAX_WORDS,
+        _ => false,
     }
 }
 

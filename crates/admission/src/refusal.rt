@@ -45,7 +45,7 @@ pub enum Refusal {
 }
 
 impl Refusal {
-    // The number of the question.
+    // The number of the question, in the fixed format of the answers.
     pub fn number(&self) -> u32
         ensures { result ≡ (numbered self.now).0 }
     {

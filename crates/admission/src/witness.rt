@@ -26,6 +26,7 @@ impl TaskSet<'_> {
         ensures long { IfOk result (λ witnesses. length witnesses.items ≡ length self.now.tasks.now) }
         ensures least { IfOk result (λ witnesses. (place : ℕ) → place < length self.now.tasks.now → least_witness self.now.attempt self.now.tasks.now place ≡ Some (slice_index witnesses.items place)) }
     {
+        // An array, since the witnesses are written in the order of the ranks.
         let mut witnesses = [0; 32];
         'tasks: {
             for rank in 0..self.tasks.len() as u32 {
