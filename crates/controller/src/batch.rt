@@ -7,7 +7,6 @@ ghost use Rattle.controller.specs.declared.job.Event.TheVariants.{Idle};
 use crate::advance::advance;
 use crate::job::{Event, Job, JobState, Sums, Ticked};
 use crate::tally::Tally;
-use crate::urgency::{count_pending, next_place};
 use admission::refusal::Refusal;
 use admission::table::AdoptedTable;
 use shelf::interface::Shelf;
@@ -17,7 +16,7 @@ use shelf::interface::Shelf;
 pub struct OpenBatch {
     pub(crate) tally: Tally,
     // The latest job of each place.
-    jobs: [Job; 32],
+    pub(crate) jobs: [Job; 32],
     // The place of the job that worked on the last tick, unless it finished.
     last: Option<usize>,
 }
@@ -75,7 +74,7 @@ impl OpenBatch {
         ensures batch { batch_in self.new ≡ (tick_of (S.Shelf.model shelf.old) (held table.now) (batch_in self.old)).batch }
         ensures shelf { S.Shelf.model shelf.new ≡ (tick_of (S.Shelf.model shelf.old) (held table.now) (batch_in self.old)).model }
     {
-        match next_place(table, &self.jobs) {
+        match self.next_place(table) {
             None => self.idle(),
             Some(place) => self.work(shelf, table, place),
         }
@@ -147,7 +146,7 @@ impl OpenBatch {
             ticks: tally.clock,
             releases: tally.releases,
             finished: tally.finished,
-            pending: count_pending(table, &self.jobs),
+            pending: self.count_pending(table),
             retries: tally.retries,
             preemptions: tally.preemptions,
         }

@@ -4,6 +4,7 @@ ghost use Rattle.admission.specs.Search.{count_below};
 ghost use Rattle.admission.specs.Tables.{goes_by_rank};
 ghost use Rattle.controller.specs.Choices.{urgency_of, chosen, pending_at};
 
+use crate::batch::OpenBatch;
 use crate::job::Job;
 use admission::plan::{AdoptedTask, Rule};
 use admission::table::AdoptedTable;
@@ -20,58 +21,60 @@ fn urgency(rule: Rule, task: &AdoptedTask, job: &Job) -> (u64, u64)
     (released + task.deadline as u64, released)
 }
 
-// The place of the pending job that works next: the most urgent, and of equals the lowest place. By
-// rank, the order of the places finds it with no comparing.
-pub(crate) fn next_place(table: &AdoptedTable, jobs: &[Job; 32]) -> Option<usize>
-    ensures is { result ≡ chosen (held table.now).rule (held table.now).tasks jobs.now }
-    ensures inside { IfSome result (λ place. place < 32) }
-{
-    if table.rule().is_by_rank() {
-        lowest_ranked(table, jobs)
-    } else {
-        most_urgent(table, jobs)
-    }
-}
-
-// By rank: the pending job of lowest rank, the first that the order of the places comes to.
-fn lowest_ranked(table: &AdoptedTable, jobs: &[Job; 32]) -> Option<usize>
-    requires { goes_by_rank (held table.now).rule ≡ true }
-    ensures is { result ≡ chosen (held table.now).rule (held table.now).tasks jobs.now }
-    ensures inside { IfSome result (λ place. place < 32) }
-{
-    table
-        .order()
-        .iter()
-        .copied()
-        .find(|place| jobs[*place].state.is_pending())
-}
-
-// Under any rule: the most urgent pending job, found by comparing all of them, and of equals the
-// first. A loop: with `min_by_key` a tick by deadline takes a fifth longer.
-fn most_urgent(table: &AdoptedTable, jobs: &[Job; 32]) -> Option<usize>
-    ensures is { result ≡ chosen (held table.now).rule (held table.now).tasks jobs.now }
-    ensures inside { IfSome result (λ place. place < 32) }
-{
-    let mut best: Option<(usize, (u64, u64))> = None;
-    for (place, task) in table.tasks().iter().enumerate() {
-        let job = &jobs[place];
-        if !job.state.is_pending() {
-            continue;
-        }
-        let urgency = urgency(table.rule(), task, job);
-        if best.is_none_or(|(_, least)| urgency < least) {
-            best = Some((place, urgency));
+impl OpenBatch {
+    // The place of the pending job that works next: the most urgent, and of equals the lowest place. By
+    // rank, the order of the places finds it with no comparing.
+    pub(crate) fn next_place(&self, table: &AdoptedTable) -> Option<usize>
+        ensures is { result ≡ chosen (held table.now).rule (held table.now).tasks self.now.jobs }
+        ensures inside { IfSome result (λ place. place < 32) }
+    {
+        if table.rule().is_by_rank() {
+            self.lowest_ranked(table)
+        } else {
+            self.most_urgent(table)
         }
     }
-    best.map(|(place, _)| place)
-}
 
-// How many jobs of the table's tasks are pending.
-pub(crate) fn count_pending(table: &AdoptedTable, jobs: &[Job; 32]) -> u32
-    ensures { result ≡ count_below (length (held table.now).tasks) (pending_at jobs.now) }
-{
-    jobs[..table.tasks().len()]
-        .iter()
-        .filter(|job| job.state.is_pending())
-        .count() as u32
+    // By rank: the pending job of lowest rank, the first that the order of the places comes to.
+    fn lowest_ranked(&self, table: &AdoptedTable) -> Option<usize>
+        requires { goes_by_rank (held table.now).rule ≡ true }
+        ensures is { result ≡ chosen (held table.now).rule (held table.now).tasks self.now.jobs }
+        ensures inside { IfSome result (λ place. place < 32) }
+    {
+        table
+            .order()
+            .iter()
+            .copied()
+            .find(|place| self.jobs[*place].state.is_pending())
+    }
+
+    // Under any rule: the most urgent pending job, found by comparing all of them, and of equals the
+    // first. A loop: with `min_by_key` a tick by deadline takes a fifth longer.
+    fn most_urgent(&self, table: &AdoptedTable) -> Option<usize>
+        ensures is { result ≡ chosen (held table.now).rule (held table.now).tasks self.now.jobs }
+        ensures inside { IfSome result (λ place. place < 32) }
+    {
+        let mut best: Option<(usize, (u64, u64))> = None;
+        for (place, task) in table.tasks().iter().enumerate() {
+            let job = &self.jobs[place];
+            if !job.state.is_pending() {
+                continue;
+            }
+            let urgency = urgency(table.rule(), task, job);
+            if best.is_none_or(|(_, least)| urgency < least) {
+                best = Some((place, urgency));
+            }
+        }
+        best.map(|(place, _)| place)
+    }
+
+    // How many jobs of the table's tasks are pending.
+    pub(crate) fn count_pending(&self, table: &AdoptedTable) -> u32
+        ensures { result ≡ count_below (length (held table.now).tasks) (pending_at self.now.jobs) }
+    {
+        self.jobs[..table.tasks().len()]
+            .iter()
+            .filter(|job| job.state.is_pending())
+            .count() as u32
+    }
 }

@@ -6,7 +6,7 @@ use Rattle.std.proofs.lemmas.List.{get_or_default}
 use Rattle.admission.specs.Held.{held}
 use Rattle.controller.specs.Choices.{pending_at}
 use Rattle.controller.proofs.Ordering.{first_ranked}
-use Rattle.controller.proofs.urgency.lowest_ranked.Goals as goal
+use Rattle.controller.proofs.batch.OpenBatch.lowest_ranked.Goals as goal
 
 pub find-requires-clause-callable : goal.find-requires-clause-callable
 find-requires-clause-callable c =
@@ -22,6 +22,6 @@ find-requires-clause-callable c =
 pub returns-clause-is : goal.returns-clause-is
 returns-clause-is c =
     let table = held c.args.table.now in
-    let jobs = c.args.jobs.now in
+    let jobs = c.args.self.now.jobs in
     first_ranked table.rule table.tasks c.order.result.now jobs c.requires (c.order.ensures.ordered c.requires) c.order.ensures.long c.find.result
     (first_from_find _ _ _ (λ (x : ℕ). pending_at jobs x ≡ true) (λ (x : ℕ). pending_at jobs x ≡ false) c.find.ensures.ran (YieldsList-from_copied (YieldsList-from_slice c.order.result.now cc)) (λ x q k. search (rules, tests)) (λ x q k. search (rules, tests)))

@@ -10,7 +10,7 @@ use Rattle.admission.proofs.Ranges.{count_yes, count_no}
 use Rattle.controller.specs.declared.job.Job.{Job}
 use Rattle.controller.specs.Choices.{no_job, pending_at}
 use Rattle.controller.specs.Turns.{pending_in}
-use Rattle.controller.proofs.urgency.count_pending.Goals as goal
+use Rattle.controller.proofs.batch.OpenBatch.count_pending.Goals as goal
 
 -- the pending jobs among the first are those at the first places
 counted_below : (jobs : List Job) (n : ℕ) → n ≤ length jobs → count_by (λ (j : Job). pending_in j.state) (take n jobs) ≡ count_below n (pending_at jobs)
@@ -25,6 +25,6 @@ counted_below jobs (suc n) h =
 pub returns : goal.returns
 returns c =
     let count = length (held c.args.table.now).tasks in
-    let counted : c.count.result ≡ count_by (λ (j : Job). pending_in j.state) (take count c.args.jobs.now) = search (rules, chains) in
+    let counted : c.count.result ≡ count_by (λ (j : Job). pending_in j.state) (take count c.args.self.now.jobs) = search (rules, chains) in
     let few : count ≤ 32 = subst (λ (tasks : List AdoptedTask). length tasks ≤ 32) c.tasks.ensures.are c.tasks.ensures.few in
-    counted ∙ counted_below c.args.jobs.now count (omega (arith, few))
+    counted ∙ counted_below c.args.self.now.jobs count (omega (arith, few))
