@@ -86,7 +86,8 @@ impl AdoptedTable {
     }
 
     // Takes the table of the lists in place of this one if it passes all questions; the caller's
-    // records then get their rank and witness. Else nothing changes.
+    // records then get their rank and witness. Else nothing changes. The rule comes as a number, as
+    // C has it: one that is unknown is refused.
     pub fn adopt<S: Shelf>(
         &mut self,
         shelf: &S,

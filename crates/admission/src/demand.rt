@@ -21,53 +21,55 @@ fn periods_in(span: u32, period: u32) -> (u32, u32)
     }
 }
 
-// By rank: the work and the retry charge that one task adds within a span.
-fn share_by_rank(task: &AdoptedTask, attempt: u32, rank: u32, span: Span) -> (u64, u64)
-    requires { (NumberLimits task.now) × (attempt ≤ 65) }
-    ensures work { result.0 ≡ work_by_rank rank span.ticks task.now }
-    ensures charge { result.1 ≡ charge_by_rank attempt rank span.ticks task.now }
-    ensures small { (result.0 ≤ 1600000000000) × (result.1 ≤ 130000000) }
-{
-    if task.rank > rank {
-        return (0, 0);
-    }
-    let (jobs, before) = periods_in(span.ticks + (task.period - 1), task.period);
-    let work = jobs as u64 * task.cost as u64;
-    if task.rank == rank {
-        return (work, 0);
-    }
-    (work, before as u64 * attempt as u64)
-}
-
-// By deadline: the work and the retry charge that one task adds within a span.
-fn share_by_deadline(task: &AdoptedTask, attempt: u32, span: Span) -> (u64, u64)
-    requires { (NumberLimits task.now) × (attempt ≤ 65) }
-    ensures work { result.0 ≡ work_by_deadline span.ticks task.now }
-    ensures charge { result.1 ≡ charge_by_deadline attempt span.ticks task.now }
-    ensures small { (result.0 ≤ 1600000000000) × (result.1 ≤ 130000000) }
-{
-    let (jobs, before) = periods_in(span.ticks + task.period - task.deadline, task.period);
-    (
-        jobs as u64 * task.cost as u64,
-        before as u64 * attempt as u64,
-    )
-}
-
-// The work and the retry charge that one task adds within a span.
-fn share(rule: Rule, task: &AdoptedTask, attempt: u32, rank: u32, span: Span) -> (u64, u64)
-    requires { (NumberLimits task.now) × (attempt ≤ 65) }
-    ensures work { result.0 ≡ work_share rule rank span.ticks task.now }
-    ensures charge { result.1 ≡ charge_share rule attempt rank span.ticks task.now }
-    ensures small { (result.0 ≤ 1600000000000) × (result.1 ≤ 130000000) }
-{
-    if rule.is_by_rank() {
-        share_by_rank(task, attempt, rank, span)
-    } else {
-        share_by_deadline(task, attempt, span)
-    }
-}
-
 impl TaskSet<'_> {
+    // By rank: the work and the retry charge that one task adds within a span. The limits of the
+    // task are required here, no ghost fields of it: the definitions also speak of tasks without
+    // numbers.
+    fn share_by_rank(&self, task: &AdoptedTask, rank: u32, span: Span) -> (u64, u64)
+        requires { NumberLimits task.now }
+        ensures work { result.0 ≡ work_by_rank rank span.ticks task.now }
+        ensures charge { result.1 ≡ charge_by_rank self.now.attempt rank span.ticks task.now }
+        ensures small { (result.0 ≤ 1600000000000) × (result.1 ≤ 130000000) }
+    {
+        if task.rank > rank {
+            return (0, 0);
+        }
+        let (jobs, before) = periods_in(span.ticks + (task.period - 1), task.period);
+        let work = jobs as u64 * task.cost as u64;
+        if task.rank == rank {
+            return (work, 0);
+        }
+        (work, before as u64 * self.attempt as u64)
+    }
+
+    // By deadline: the work and the retry charge that one task adds within a span.
+    fn share_by_deadline(&self, task: &AdoptedTask, span: Span) -> (u64, u64)
+        requires { NumberLimits task.now }
+        ensures work { result.0 ≡ work_by_deadline span.ticks task.now }
+        ensures charge { result.1 ≡ charge_by_deadline self.now.attempt span.ticks task.now }
+        ensures small { (result.0 ≤ 1600000000000) × (result.1 ≤ 130000000) }
+    {
+        let (jobs, before) = periods_in(span.ticks + task.period - task.deadline, task.period);
+        (
+            jobs as u64 * task.cost as u64,
+            before as u64 * self.attempt as u64,
+        )
+    }
+
+    // The work and the retry charge that one task adds within a span.
+    fn share(&self, rule: Rule, task: &AdoptedTask, rank: u32, span: Span) -> (u64, u64)
+        requires { NumberLimits task.now }
+        ensures work { result.0 ≡ work_share rule rank span.ticks task.now }
+        ensures charge { result.1 ≡ charge_share rule self.now.attempt rank span.ticks task.now }
+        ensures small { (result.0 ≤ 1600000000000) × (result.1 ≤ 130000000) }
+    {
+        if rule.is_by_rank() {
+            self.share_by_rank(task, rank, span)
+        } else {
+            self.share_by_deadline(task, span)
+        }
+    }
+
     // The work and the retry charge within a span: by rank, of the tasks ranked up to `rank`; by
     // deadline, of all tasks, and the rank does not matter.
     pub(crate) fn demand_within(&self, rule: Rule, rank: u32, span: Span) -> (u64, u64)
@@ -78,7 +80,7 @@ impl TaskSet<'_> {
         let mut work: u64 = 0;
         let mut charge: u64 = 0;
         for task in self.tasks {
-            let (more_work, more_charge) = share(rule, task, self.attempt, rank, span);
+            let (more_work, more_charge) = self.share(rule, task, rank, span);
             work += more_work;
             charge += more_charge;
         }

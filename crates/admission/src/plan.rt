@@ -125,7 +125,7 @@ pub struct AdoptedTask {
     pub deadline: u32,
     // The ticks of a job whose every access succeeds at the first attempt.
     pub cost: u32,
-    // 0 is the most urgent; 0 for all under earliest deadline first.
+    // 0 is the most urgent; 0 for all under earliest deadline first, as the caller's records have it.
     pub rank: u32,
 }
 

@@ -72,7 +72,7 @@ impl Refusal {
         }
     }
 
-    // What the question was about, or 0.
+    // What the question was about, or 0, in the fixed format of the answers.
     pub fn detail(&self) -> u32
         ensures { result ≡ (numbered self.now).1 }
     {

@@ -2,7 +2,8 @@ ghost use Rattle.std.specs.Prelude.{◌≡◌, ◌+◌, ◌≤◌, length};
 ghost use Rattle.admission.specs.Lengths.{owned};
 
 // A task as the caller describes it. Rank and witness are written when its table is taken.
-// Both records are laid out as in C, so that a slice of them can be handed in from other languages.
+// Both records are laid out as in C, so that a slice of them can be handed in from other languages;
+// so a kind is a number, and 0 stands for no rank and no witness.
 #[repr(C)]
 #[derive(Clone, Copy, Debug, PartialEq, Eq)]
 pub struct Task {

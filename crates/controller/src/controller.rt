@@ -42,7 +42,8 @@ impl<S: Shelf> Controller<S> {
     }
 
     // Takes a task table if it passes all questions; the records then get rank and witness. Answers
-    // the greatest witness, or the hyperperiod under earliest deadline first.
+    // the greatest witness, or the hyperperiod under earliest deadline first. The rule comes as a
+    // number, as C has it: one that is unknown is refused.
     pub fn adopt(
         &mut self,
         rule: u32,

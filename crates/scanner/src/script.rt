@@ -33,7 +33,7 @@ pub enum Verb {
 pub struct UnknownVerb;
 
 // A line of a script, understood.
-#[derive(Clone, Copy)]
+#[derive(Clone, Copy, Debug, PartialEq, Eq)]
 pub enum Line {
     Rule { rule: u32 },
     Task { task: Task },

@@ -11,7 +11,8 @@ pub trait Shelf {
     fn has(&self, object: u32) -> bool
         ensures { result ≡ (model self.now).rules.exists object };
 
-    // The object's reading, or 0 without the object.
+    // The object's reading, or 0 without the object: a plain number, since whoever looks asked
+    // `has` before.
     fn look(&self, object: u32) -> u32
         ensures { result ≡ reading_at (model self.now) object };
 

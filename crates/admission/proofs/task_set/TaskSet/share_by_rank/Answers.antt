@@ -1,7 +1,7 @@
 use Rattle.std.proofs.Common.{◌≡◌, ℕ, ◌+◌, ◌-◌, ◌*◌, ◌/◌, ◌≤◌, sym, ap, ◌∙◌, subst, arith}
 use Rattle.std.proofs.lemmas.Bool.{le-leb, lt-ltb, le-ltb}
 use Rattle.admission.proofs.Bounds.{jobs_small}
-use Rattle.admission.proofs.demand.share_by_rank.Goals as goal
+use Rattle.admission.proofs.task_set.TaskSet.share_by_rank.Goals as goal
 
 pub returns-then-task-rank-2 : goal.returns-then-task-rank-2
 returns-then-task-rank-2 c =
@@ -25,9 +25,9 @@ returns c =
     let before = c.periods_in-jobs.ensures.less ∙ ap (λ (n : ℕ). n / task.period) sooner in
     record {
       work = rw (le-leb task.rank c.args.rank (omega arith)) (ap (λ (n : ℕ). n * task.cost) jobs);
-      charge = rw (lt-ltb task.rank c.args.rank (omega arith)) (ap (λ (n : ℕ). n * c.args.attempt) before);
+      charge = rw (lt-ltb task.rank c.args.rank (omega arith)) (ap (λ (n : ℕ). n * c.args.self.now.attempt) before);
       small = (
         subst (λ (n : ℕ). n * task.cost ≤ 1600000000000) (sym jobs) (jobs_small (t + (task.period - 1)) task.period task.cost 800000 (omega arith) (omega arith)),
-        subst (λ (n : ℕ). n * c.args.attempt ≤ 130000000) (sym before) (jobs_small (t - 1 + (task.period - 1)) task.period c.args.attempt 65 (omega arith) (omega arith)),
+        subst (λ (n : ℕ). n * c.args.self.now.attempt ≤ 130000000) (sym before) (jobs_small (t - 1 + (task.period - 1)) task.period c.args.self.now.attempt 65 (omega arith) (omega arith)),
       );
     }
