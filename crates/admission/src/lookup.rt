@@ -35,9 +35,10 @@ impl AdoptedTable {
         ensures are { result.now ≡ plan_at (held self.now).plans place }
         ensures few { length result.now ≤ 8 }
     {
-        match self.plans.get(place) {
-            Some(plan) => plan,
-            None => &[],
+        if place < self.tasks.len() {
+            &self.plans[place]
+        } else {
+            &[]
         }
     }
 

@@ -20,6 +20,7 @@ pub struct AdoptedTable {
     // By rank: the places, the most urgent first.
     pub(crate) order: ArrayVec<usize, 32>,
     ghost witnessed: { length witnesses.items ≡ length tasks.items },
+    ghost planned: { length plans.items ≡ length tasks.items },
     ghost ordered: { length order.items ≡ length tasks.items },
     ghost periods: { EachTask PeriodFits tasks.items },
     ghost deadlines: { EachTask DeadlineFits tasks.items },
