@@ -29,7 +29,10 @@ impl<'a> Owned<'a> {
         ensures is { result ≡ longest self.now.segments.now }
         ensures short { result ≤ 65 }
     {
-        let attempts = self.segments.iter().map(|segment| Step::from(*segment).attempt());
+        let attempts = self
+            .segments
+            .iter()
+            .map(|segment| Step::from(*segment).attempt());
         attempts.max().unwrap_or(0)
     }
 }
