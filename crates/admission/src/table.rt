@@ -21,6 +21,7 @@ pub struct AdoptedTable {
     pub(crate) order: ArrayVec<usize, 32>,
     ghost few: { length tasks.items ≤ 32 },
     ghost witnessed: { length witnesses.items ≡ length tasks.items },
+    ghost planned: { length plans.items ≡ length tasks.items },
     ghost ordered: { length order.items ≡ length tasks.items },
     ghost periods: { EachTask PeriodFits tasks.items },
     ghost deadlines: { EachTask DeadlineFits tasks.items },

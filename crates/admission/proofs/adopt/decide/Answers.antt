@@ -1,8 +1,10 @@
 use Rattle.std.proofs.Common.{◌≡◌, ℕ, true, List, length, Ok, sym, refl, ap, ◌∙◌, subst, arith}
+use Rattle.std.proofs.lemmas.List.{length-map}
 use Rattle.std.proofs.lemmas.List.FromFn.{length-map-range_with_len}
 use Rattle.admission.specs.declared.plan.AdoptedTask.{AdoptedTask}
+use Rattle.admission.specs.declared.plan.Step.{Step}
 use Rattle.admission.specs.Lengths.{longest_attempt_of}
-use Rattle.admission.specs.Tables.{goes_by_rank, adopted_tasks_of, plans_of_tasks, Table}
+use Rattle.admission.specs.Tables.{goes_by_rank, adopted_tasks_of, plans_of_tasks, steps_in, Table}
 use Rattle.admission.specs.Tests.{MeetsByRank, Ordered}
 use Rattle.admission.specs.Verdicts.{answer_of, witnesses_of}
 use Rattle.admission.proofs.Rankings.{adopted_length}
@@ -35,6 +37,11 @@ invariant_of-table g c =
     record {
       few = r.0;
       witnessed = ap (λ (xs : List ℕ). length xs) w ∙ length-map-range_with_len _ 0 (length X);
+      planned =
+          sym (length-map c.plans.result.items steps_in)
+          ∙ ap (λ (ps : List (List Step)). length ps) c.plans.ensures
+          ∙ length-map c.in_ok-lists.lists.tasks.now _
+          ∙ sym (ap (λ (xs : List AdoptedTask). length xs) c.adopted_tasks-adopted.ensures ∙ adopted_length rule c.in_ok-lists.lists.segments.now c.in_ok-lists.lists.tasks.now);
       ordered = c.order-order.ensures.long ∙ ap (λ (xs : List AdoptedTask). length xs) c.deref.ensures.0;
       periods = λ k l. (r.1 k l).0;
       deadlines = λ k l. (r.1 k l).1;
