@@ -1,3 +1,2 @@
 pub mod Choosing
 pub mod Ordering
-pub mod Working

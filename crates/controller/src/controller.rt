@@ -78,7 +78,7 @@ impl<S: Shelf> Controller<S> {
         ensures answer { result ≡ releasing (machine (S.Shelf.model self.old.shelf) self.old.core) place }
         ensures machine { machine (S.Shelf.model self.new.shelf) self.new.core ≡ released (machine (S.Shelf.model self.old.shelf) self.old.core) place }
     {
-        // No `ok_or`, here and in `tick`: a tick takes a quarter longer with it.
+        // No `as_mut().ok_or(..)?`, here and in `tick`: with it a tick takes an eighth more instructions.
         let Some(batch) = &mut self.core.batch else {
             return Err(Refusal::NoBatch);
         };

@@ -49,7 +49,7 @@ impl OpenBatch {
     }
 
     // Under any rule: the most urgent pending job, found by comparing all of them, and of equals the
-    // first. A loop: with `min_by_key` a tick by deadline takes a fifth longer.
+    // first. A loop: with `min_by_key` a tick by deadline of 32 tasks takes 40 % more instructions.
     fn most_urgent(&self, table: &AdoptedTable) -> Option<usize>
         ensures is { result ≡ chosen (held table.now).rule (held table.now).tasks self.now.jobs }
         ensures inside { IfSome result (λ place. place < 32) }
