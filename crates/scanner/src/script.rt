@@ -7,6 +7,7 @@ use admission::task::{Segment, Task};
 use arrayvec::ArrayVec;
 use std::fmt;
 use std::str::{FromStr, SplitWhitespace};
+use thiserror::Error;
 
 // As many numbers as the longest line has.
 const MOST: usize = 4;
@@ -29,7 +30,8 @@ pub enum Verb {
 }
 
 // The word is no verb.
-#[derive(Clone, Copy, Debug, PartialEq, Eq)]
+#[derive(Clone, Copy, Debug, PartialEq, Eq, Error)]
+#[error("no word that a line begins with")]
 pub struct UnknownVerb;
 
 // A line of a script, understood.
@@ -50,11 +52,15 @@ pub enum Line {
 }
 
 // Why a text is no line of a script. The words are kept, so that the message can name them.
-#[derive(Clone, Copy, Debug, PartialEq, Eq)]
+#[derive(Clone, Copy, Debug, PartialEq, Eq, Error)]
 pub enum LineError<'a> {
+    #[error("{word:?} is no word that a line begins with")]
     UnknownWord { word: &'a str },
+    #[error("{word:?} is not a number from 0 to 4294967295")]
     NoNumber { word: &'a str },
+    #[error("too few numbers after \"{verb}\": {found} of {}", .verb.arity())]
     TooFewNumbers { verb: Verb, found: usize },
+    #[error("too much after \"{verb}\": {word:?} is left over")]
     LeftOver { verb: Verb, word: &'a str },
 }
 
