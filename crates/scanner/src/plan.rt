@@ -30,9 +30,10 @@ struct Tokens {
 }
 
 // What the lines so far say: the lists for the next adoption, and the calls.
-#[derive(Drop)]
+#[derive(Debug, Drop)]
 pub struct Plan {
     heap: Global,
+    // A number, as the call takes it, and 0 before the first: the adoption refuses what is no rule.
     rule: u32,
     tasks: Vec<Task>,
     segments: Vec<Segment>,

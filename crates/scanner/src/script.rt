@@ -34,9 +34,11 @@ pub enum Verb {
 #[error("no word that a line begins with")]
 pub struct UnknownVerb;
 
-// A line of a script, understood.
+// A line of a script, understood. No `Call`: some lines make none, `tick` makes many, and what is
+// adopted or closed is known to the plan alone.
 #[derive(Clone, Copy, Debug, PartialEq, Eq)]
 pub enum Line {
+    // A number, as the script has it: the adoption refuses what is no rule.
     Rule { rule: u32 },
     Task { task: Task },
     Segment { segment: Segment },
@@ -206,6 +208,7 @@ pub fn parse_line(text: &str) -> Result<Option<Line>, LineError<'_>>
     ensures { Parsed text.now result }
 {
     let mut words = before_comment(text).split_whitespace();
+    // No `?`: a text without a word is blank, which is an answer and no error.
     let Some(word) = words.next() else {
         return Ok(None);
     };
