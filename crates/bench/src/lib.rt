@@ -22,7 +22,8 @@ pub extern "C" fn bench_controller_bytes() -> usize {
 }
 
 // Adopts the same table so many times. The sum of the answers shows that the work was done, and
-// that it was the same.
+// that it was the same. The rule is a number, here and in `bench_ticks`: it comes over the C
+// interface.
 #[unsafe(no_mangle)]
 pub extern "C" fn bench_adoptions(
     rule: u32,
@@ -44,9 +45,10 @@ pub extern "C" fn bench_adoptions(
 
 // One more tick in a sum over all answers.
 fn with_tick(sum: u64, tick: Result<Ticked, Refusal>) -> u64 {
-    let told = tick
-        .map(|tick| tick.event.number() as u64 + tick.event.word() as u64 + tick.place as u64)
-        .unwrap_or_else(|refusal| refusal.number() as u64);
+    let told = tick.map_or_else(
+        |refusal| refusal.number() as u64,
+        |tick| tick.event.number() as u64 + tick.event.word() as u64 + tick.place as u64,
+    );
     sum.wrapping_mul(31).wrapping_add(told)
 }
 
@@ -80,8 +82,8 @@ pub extern "C" fn bench_ticks(
         }
         sum = with_tick(sum, controller.tick());
     }
-    controller
-        .close(token)
-        .map(|sums| sum.wrapping_add(sums.retries as u64))
-        .unwrap_or_else(|refusal| refusal.number() as u64)
+    controller.close(token).map_or_else(
+        |refusal| refusal.number() as u64,
+        |sums| sum.wrapping_add(sums.retries as u64),
+    )
 }

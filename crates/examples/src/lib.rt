@@ -25,6 +25,7 @@ mod tests {
         }
     }
 
+    // The kind as its number: it goes into the record as a caller in C writes it.
     fn segment(kind: u32, size: u32, amount: u32) -> Segment {
         Segment {
             kind,
@@ -48,11 +49,6 @@ mod tests {
         ]
     }
 
-    // The number of a refusal, or 0.
-    fn number(answer: Result<u32, Refusal>) -> u32 {
-        answer.err().map_or(0, |refusal| refusal.number())
-    }
-
     fn run_for(controller: &mut Controller<Cell>, ticks: u32) {
         for _ in 0..ticks {
             let _ = controller.tick();
@@ -63,10 +59,7 @@ mod tests {
     fn table_a_is_taken(rt: HostRuntime) {
         let mut controller = Controller::new(Cell::new(0));
         let mut tasks = tasks_a(15);
-        assert_eq!(rt;
-            controller.adopt(1, &mut tasks, &segments_a()).unwrap_or(0),
-            15
-        );
+        assert_eq!(rt; controller.adopt(1, &mut tasks, &segments_a()), Ok(15));
         assert_eq!(rt; tasks[0].rank, 0);
         assert_eq!(rt; tasks[0].witness, 2);
         assert_eq!(rt; tasks[1].rank, 1);
@@ -77,7 +70,12 @@ mod tests {
     fn refused_list_is_as_before(rt: HostRuntime) {
         let mut controller = Controller::new(Cell::new(0));
         let mut tasks = tasks_a(14);
-        assert_eq!(rt; number(controller.adopt(1, &mut tasks, &segments_a())), 20);
+        let refusal = Refusal::Unschedulable { at: 1 };
+        assert_eq!(rt;
+            controller.adopt(1, &mut tasks, &segments_a()),
+            Err(refusal)
+        );
+        assert_eq!(rt; refusal.number(), 20);
         assert_eq!(rt; tasks[0].rank, 0);
         assert_eq!(rt; tasks[0].witness, 0);
         assert_eq!(rt; tasks[1].rank, 0);
@@ -88,18 +86,19 @@ mod tests {
     fn release_waits_for_the_period(rt: HostRuntime) {
         let mut controller = Controller::new(Cell::new(0));
         let mut tasks = tasks_a(15);
-        let greatest = controller.adopt(1, &mut tasks, &segments_a()).unwrap_or(0);
+        let greatest = controller.adopt(1, &mut tasks, &segments_a());
         let (_, token) = controller.open();
-        let first = controller.release(0).unwrap_or(0);
+        let first = controller.release(0);
         run_for(&mut controller, 4);
-        let early = number(controller.release(0));
+        let early = controller.release(0);
         run_for(&mut controller, 1);
-        let second = controller.release(0).unwrap_or(0);
+        let second = controller.release(0);
         let _ = controller.close(token);
-        assert_eq!(rt; greatest, 15);
-        assert_eq!(rt; first, 5);
-        assert_eq!(rt; early, 33);
-        assert_eq!(rt; second, 10);
+        assert_eq!(rt; greatest, Ok(15));
+        assert_eq!(rt; first, Ok(5));
+        assert_eq!(rt; early, Err(Refusal::TooSoon));
+        assert_eq!(rt; Refusal::TooSoon.number(), 33);
+        assert_eq!(rt; second, Ok(10));
     }
 
     #[test]
@@ -110,6 +109,8 @@ mod tests {
             task(1_000_000, 1_000_000, 0, 1),
             task(999_999, 999_999, 0, 1),
         ];
-        assert_eq!(rt; number(controller.adopt(3, &mut tasks, &segments)), 18);
+        let refusal = Refusal::LongHyperperiod;
+        assert_eq!(rt; controller.adopt(3, &mut tasks, &segments), Err(refusal));
+        assert_eq!(rt; refusal.number(), 18);
     }
 }

@@ -11,7 +11,7 @@ use std::slice::Iter;
 
 // A part of a run: the calls from one on, up to another, and what they answered. Positions, not
 // slices: `take` and `skip` need no proof that both lie in the run, in order.
-#[derive(Clone, Copy)]
+#[derive(Clone, Copy, Debug)]
 pub struct Part<'a> {
     pub calls: &'a [Call],
     pub answers: &'a [Answer],
@@ -50,11 +50,11 @@ enum State {
 }
 
 // The latest job of a place as the ticks go by.
-#[derive(Clone, Copy, Debug, Default)]
+#[derive(Clone, Copy, Debug, Default, PartialEq, Eq)]
 struct Row {
     place: usize,
     clock: u32,
-    // It was released since the last tick.
+    // It was released since the last tick. A flag beside no value: the deadline lasts longer.
     fresh: bool,
     // Its absolute deadline.
     due: Option<u32>,
@@ -178,6 +178,7 @@ fn write_ruler<W: Write>(out: &mut W, ticks: usize, unit: usize) -> io::Result<(
 fn write_sums<W: Write>(out: &mut W, part: Part<'_>) -> io::Result<()> {
     for (_, answer) in part.steps() {
         if let Answer::Closed { .. } = answer {
+            // Any clock: sums are printed with none.
             let said = Said {
                 clock: 0,
                 answer: *answer,

@@ -17,7 +17,6 @@ use runs::run::{TooLong, run};
 use shelf::cell::Cell;
 use shelf::pair::Pair;
 use shelf::queue::Queue;
-use std::alloc::Global;
 use std::io;
 use std::io::{BufRead, BufReader, BufWriter, Write};
 use std::process::ExitCode;

@@ -5,15 +5,18 @@ ghost use Rattle.scanner.specs.Plans.{draft, blank, drafted, with_calls, tokens_
 use crate::script::Line;
 use admission::task::{Segment, Task};
 use runs::calls::Call;
-use std::alloc::{AllocError, AllocFailed, Global};
+use std::alloc::{AllocError, Global};
+use thiserror::Error;
 
 // The most calls that a script can make.
 pub const MOST_CALLS: usize = 1_000_000;
 
 // Why a line cannot be added.
-#[derive(Clone, Copy, Debug, PartialEq, Eq)]
+#[derive(Clone, Copy, Debug, PartialEq, Eq, Error)]
 pub enum PlanError {
-    OutOfMemory,
+    #[error("out of memory")]
+    OutOfMemory(#[from(alloc)] AllocError),
+    #[error("a script makes at most {MOST_CALLS} calls")]
     TooManyCalls,
 }
 
@@ -27,9 +30,10 @@ struct Tokens {
 }
 
 // What the lines so far say: the lists for the next adoption, and the calls.
-#[derive(Drop)]
+#[derive(Debug, Drop)]
 pub struct Plan {
     heap: Global,
+    // A number, as the call takes it, and 0 before the first: the adoption refuses what is no rule.
     rule: u32,
     tasks: Vec<Task>,
     segments: Vec<Segment>,
@@ -37,18 +41,6 @@ pub struct Plan {
     pub calls: Vec<Call>,
     // How many calls come before each chart.
     pub charts: Vec<usize>,
-}
-
-impl From<AllocError> for PlanError {
-    fn from(_error: AllocError) -> PlanError {
-        PlanError::OutOfMemory
-    }
-}
-
-impl<T: Drop> From<AllocFailed<T>> for PlanError {
-    fn from(_refused: AllocFailed<T>) -> PlanError {
-        PlanError::OutOfMemory
-    }
 }
 
 impl Tokens {

@@ -1,8 +1,6 @@
 ghost use Rattle.std.specs.Prelude.{◌≡◌, Some};
 ghost use Rattle.scanner.specs.Texts.{said_text, stamp_text, sums_text, tick_text, yes_no_text};
 
-use crate::plan::{MOST_CALLS, PlanError};
-use crate::script::LineError;
 use admission::task::Task;
 use controller::job::{Sums, Ticked};
 use runs::calls::Answer;
@@ -116,38 +114,5 @@ impl fmt::Display for Stamp {
             "task {} rank {} witness {}",
             self.place, self.task.rank, self.task.witness
         )
-    }
-}
-
-impl fmt::Display for LineError<'_> {
-    fn fmt<W: fmt::Write>(&self, f: &mut fmt::Formatter<W>) -> fmt::Result {
-        match self {
-            LineError::UnknownWord { word } => write!(
-                f,
-                "{word:?} is no word that a line begins with"
-            ),
-            LineError::NoNumber { word } => write!(
-                f,
-                "{word:?} is not a number from 0 to 4294967295"
-            ),
-            LineError::TooFewNumbers { verb, found } => write!(
-                f,
-                "too few numbers after \"{verb}\": {found} of {}",
-                verb.arity()
-            ),
-            LineError::LeftOver { verb, word } => write!(
-                f,
-                "too much after \"{verb}\": {word:?} is left over"
-            ),
-        }
-    }
-}
-
-impl fmt::Display for PlanError {
-    fn fmt<W: fmt::Write>(&self, f: &mut fmt::Formatter<W>) -> fmt::Result {
-        match self {
-            PlanError::OutOfMemory => write!(f, "out of memory"),
-            PlanError::TooManyCalls => write!(f, "a script makes at most {MOST_CALLS} calls"),
-        }
     }
 }

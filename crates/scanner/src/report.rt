@@ -5,14 +5,14 @@ use std::io;
 use std::io::Write;
 
 // The call that opened a batch, and how many tasks its table has.
-#[derive(Clone, Copy, Debug)]
+#[derive(Clone, Copy, Debug, PartialEq, Eq)]
 struct Batch {
     from: usize,
     rows: usize,
 }
 
 // How far the report is.
-#[derive(Clone, Copy, Debug, Default)]
+#[derive(Clone, Copy, Debug, Default, PartialEq, Eq)]
 struct Progress {
     // The next call.
     next: usize,
@@ -65,10 +65,14 @@ fn write_answer<W: Write>(out: &mut W, call: &Call, said: Said) -> io::Result<()
     Ok(())
 }
 
-// The answers of the next part.
+// The answers of a part that are not written yet.
 fn write_answers<W: Write>(out: &mut W, part: Part<'_>, start: Progress) -> io::Result<Progress> {
+    let next = Part {
+        from: start.next,
+        ..part
+    };
     let mut progress = start;
-    for (call, answer) in part.steps() {
+    for (call, answer) in next.steps() {
         progress = progress.past(call, *answer);
         let said = Said {
             clock: progress.clock,
@@ -95,21 +99,16 @@ pub fn write_report<W: Write>(
     };
     let mut progress = Progress::default();
     for until in charts {
-        let next = Part {
-            from: progress.next,
+        let before = Part {
             until: *until,
             ..whole
         };
-        progress = write_answers(out, next, progress)?;
+        progress = write_answers(out, before, progress)?;
         match progress.batch {
             None => writeln!(out, "no batch")?,
-            Some(Batch { from, rows }) => write_chart(out, Part { from, ..next }, rows)?,
+            Some(Batch { from, rows }) => write_chart(out, Part { from, ..before }, rows)?,
         }
     }
-    let rest = Part {
-        from: progress.next,
-        ..whole
-    };
-    write_answers(out, rest, progress)?;
+    write_answers(out, whole, progress)?;
     Ok(())
 }

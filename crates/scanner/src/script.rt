@@ -7,6 +7,7 @@ use admission::task::{Segment, Task};
 use arrayvec::ArrayVec;
 use std::fmt;
 use std::str::{FromStr, SplitWhitespace};
+use thiserror::Error;
 
 // As many numbers as the longest line has.
 const MOST: usize = 4;
@@ -29,12 +30,15 @@ pub enum Verb {
 }
 
 // The word is no verb.
-#[derive(Clone, Copy, Debug, PartialEq, Eq)]
+#[derive(Clone, Copy, Debug, PartialEq, Eq, Error)]
+#[error("no word that a line begins with")]
 pub struct UnknownVerb;
 
-// A line of a script, understood.
+// A line of a script, understood. No `Call`: some lines make none, `tick` makes many, and what is
+// adopted or closed is known to the plan alone.
 #[derive(Clone, Copy, Debug, PartialEq, Eq)]
 pub enum Line {
+    // A number, as the script has it: the adoption refuses what is no rule.
     Rule { rule: u32 },
     Task { task: Task },
     Segment { segment: Segment },
@@ -50,11 +54,15 @@ pub enum Line {
 }
 
 // Why a text is no line of a script. The words are kept, so that the message can name them.
-#[derive(Clone, Copy, Debug, PartialEq, Eq)]
+#[derive(Clone, Copy, Debug, PartialEq, Eq, Error)]
 pub enum LineError<'a> {
+    #[error("{word:?} is no word that a line begins with")]
     UnknownWord { word: &'a str },
+    #[error("{word:?} is not a number from 0 to 4294967295")]
     NoNumber { word: &'a str },
+    #[error("too few numbers after \"{verb}\": {found} of {}", .verb.arity())]
     TooFewNumbers { verb: Verb, found: usize },
+    #[error("too much after \"{verb}\": {word:?} is left over")]
     LeftOver { verb: Verb, word: &'a str },
 }
 
@@ -200,6 +208,7 @@ pub fn parse_line(text: &str) -> Result<Option<Line>, LineError<'_>>
     ensures { Parsed text.now result }
 {
     let mut words = before_comment(text).split_whitespace();
+    // No `?`: a text without a word is blank, which is an answer and no error.
     let Some(word) = words.next() else {
         return Ok(None);
     };
