@@ -1,7 +1,7 @@
-ghost use Rattle.std.specs.Prelude.{◌≡◌, ℕ, ◌<◌, ◌≤◌, List, map, length, Ok, Err, MatchResult};
+ghost use Rattle.std.specs.Prelude.{◌≡◌, ◌≤◌, length, Ok, Err};
 ghost use Rattle.admission.specs.Held.{held, Decided};
-ghost use Rattle.admission.specs.Tables.{empty_table, no_adopted_task};
-ghost use Rattle.admission.specs.Verdicts.{verdict, answered, held_after, list_after, stamped_by, answer_of, demanded};
+ghost use Rattle.admission.specs.Tables.{empty_table};
+ghost use Rattle.admission.specs.Verdicts.{verdict, answered, held_after, list_after, stamped_by, demanded};
 
 use crate::limit::check_lists;
 use crate::plan::{AdoptedTask, Rule};

@@ -1,5 +1,5 @@
-ghost use Rattle.std.specs.Prelude.{◌≡◌, ℕ, ◌+◌, ◌-◌, ◌*◌, ◌/◌, ◌≤◌, length};
-ghost use Rattle.admission.specs.Demand.{ceiling, work_by_rank, charge_by_rank, work_by_deadline, charge_by_deadline, work_share, charge_share, work_within, charge_within, demand_by_deadline};
+ghost use Rattle.std.specs.Prelude.{◌≡◌, ◌+◌, ◌-◌, ◌/◌, ◌≤◌};
+ghost use Rattle.admission.specs.Demand.{work_by_rank, charge_by_rank, work_by_deadline, charge_by_deadline, work_share, charge_share, work_within, charge_within, demand_by_deadline};
 ghost use Rattle.admission.specs.Limits.{NumberLimits};
 
 use crate::plan::{AdoptedTask, Rule};

@@ -1,4 +1,4 @@
-ghost use Rattle.std.specs.Prelude.{◌≡◌, ℕ, ◌+◌, ◌≤◌, Bool, length, IfOk, MatchResult};
+ghost use Rattle.std.specs.Prelude.{◌≡◌, ◌≤◌, length, IfOk, MatchResult};
 ghost use Rattle.admission.specs.Verdicts.{has_fit_times, has_fit_range, has_fit_size, has_object, segments_no, task_no, tasks_no, unless};
 
 use crate::lists::Lists;

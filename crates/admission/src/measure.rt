@@ -6,7 +6,7 @@ use crate::plan::{AdoptedTask, Plan, Rule, Step};
 use crate::rank::rank_at;
 use arrayvec::ArrayVec;
 
-impl<'a> Owned<'a> {
+impl Owned<'_> {
     // The steps of a job.
     fn plan(&self) -> Plan
         ensures { steps_in result ≡ map step_of self.now.segments.now }
@@ -19,7 +19,7 @@ impl<'a> Owned<'a> {
     }
 }
 
-impl<'a> Lists<'a> {
+impl Lists<'_> {
     // What the tests count of each task.
     pub(crate) fn adopted_tasks(&self, rule: Rule) -> ArrayVec<AdoptedTask, 32>
         ensures { result.items ≡ adopted_tasks_of rule self.now.segments.now self.now.tasks.now }

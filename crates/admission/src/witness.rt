@@ -1,4 +1,4 @@
-ghost use Rattle.std.specs.Prelude.{◌≡◌, ℕ, ◌+◌, ◌<◌, ◌≤◌, length, IfOk, Some, None, MatchOption, MatchResult, ◌≢◌, slice_index, slice_index_or};
+ghost use Rattle.std.specs.Prelude.{◌≡◌, ℕ, ◌<◌, length, IfOk, Some, None, MatchOption, MatchResult, ◌≢◌, slice_index, slice_index_or};
 ghost use Rattle.admission.specs.Tables.{no_adopted_task};
 ghost use Rattle.admission.specs.Tests.{least_witness, lowest_unmet, Ranked};
 ghost use Rattle.admission.specs.Verdicts.{ranks_no};
