@@ -3,6 +3,7 @@ ghost use Rattle.admission.specs.Held.{held, Decided};
 ghost use Rattle.admission.specs.Tables.{empty_table};
 ghost use Rattle.admission.specs.Verdicts.{verdict, answered, held_after, list_after, stamped_by, demanded};
 
+use crate::demand::Among;
 use crate::limit::check_lists;
 use crate::plan::{AdoptedTask, Rule};
 use crate::refusal::Refusal;
@@ -106,6 +107,7 @@ impl AdoptedTable {
     }
 
     // The work and the retry charge at a place within `t` ticks.
+    #[tactic(auto, using(crate::proofs::Counted::counted_is))]
     pub fn demand(&self, place: u32, t: u32) -> Result<(u64, u64), Refusal>
         ensures { result ≡ demanded (held self.now) place t }
     {
@@ -115,6 +117,7 @@ impl AdoptedTable {
         }
         let span = Span::try_from(t)?;
         let rank = self.tasks[place].rank;
-        Ok(self.task_set().demand_within(self.rule, rank, span))
+        let among = Among::of(self.rule, rank);
+        Ok(self.task_set().demand_within(among, span))
     }
 }

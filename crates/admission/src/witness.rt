@@ -3,7 +3,8 @@ ghost use Rattle.admission.specs.Tables.{no_adopted_task};
 ghost use Rattle.admission.specs.Tests.{least_witness, lowest_unmet, Ranked};
 ghost use Rattle.admission.specs.Verdicts.{ranks_no};
 
-use crate::plan::{AdoptedTask, Rule};
+use crate::demand::Among;
+use crate::plan::AdoptedTask;
 use crate::refusal::Refusal;
 use crate::span::Span;
 use crate::table::front;
@@ -35,7 +36,7 @@ impl TaskSet<'_> {
                     let mut t: u32 = 1;
                     witnesses[place] = 'times: loop {
                         let span = Span { ticks: t };
-                        let (work, charge) = self.demand_within(Rule::RateMonotonic, rank, span);
+                        let (work, charge) = self.demand_within(Among::RankedUpTo(rank), span);
                         let needed = work + charge;
                         if needed <= t as u64 {
                             break 'times t;
