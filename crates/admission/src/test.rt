@@ -24,11 +24,7 @@ pub struct Passed {
 fn greatest(numbers: &[u32]) -> u32
     ensures { result ≡ max_below (length numbers.now) (λ k. slice_index numbers.now k) }
 {
-    let mut most: u32 = 0;
-    for number in numbers {
-        most = most.max(*number);
-    }
-    most
+    numbers.iter().copied().max().unwrap_or(0)
 }
 
 impl TaskSet<'_> {

@@ -1,4 +1,4 @@
-use Rattle.std.proofs.Common.{◌≡◌, ℕ, ◌+◌, ◌<◌, List, length, get_or, set, Some, sym, refl, ap, ◌∙◌, subst, inl, inr, arith}
+use Rattle.std.proofs.Common.{◌≡◌, ℕ, ◌+◌, ◌<◌, List, length, get_or, set, Some, sym, ap, ◌∙◌, subst, inl, inr, arith}
 use Rattle.std.specs.Option.{option_map}
 use Rattle.std.proofs.lemmas.List.{length-set, get_or-set_same, get_or-set_other}
 use Rattle.std.proofs.lemmas.Bool.{cases_eq}
@@ -13,7 +13,7 @@ times-preserved c =
     let tasks = c.args.self.now.tasks.now in
     let attempt = c.args.self.now.attempt in
     let place = get_or c.deref-place-items.result.now c.loop-place.place-index 0 in
-    let e = needed_is attempt tasks _ place c.times.t _ _ refl c.demand_within-work.ensures.work c.demand_within-work.ensures.charge in
+    let e = needed_is attempt tasks _ place c.times.t _ _ (omega arith) c.demand_within-work.ensures.work c.demand_within-work.ensures.charge in
     (omega arith, omega arith, omega arith, subst (λ (n : ℕ). Short attempt tasks place n) (sym e) (short_more attempt tasks place c.times.t c.args.self.now.limits c.times.invariant.3))
 
 pub loop-place-preserved : goal.loop-place-preserved
@@ -24,7 +24,7 @@ loop-place-preserved c =
     let next = c.loop-place.place-index in
     let here = get_or order next 0 in
     let o : Ordered tasks order = subst (λ (ps : List ℕ). Ordered tasks ps) (sym c.deref-place-items.ensures.0) c.places_by_rank-order.ensures.ordered in
-    let e = needed_is attempt tasks _ here c.times.t _ _ refl c.demand_within-work.ensures.work c.demand_within-work.ensures.charge in
+    let e = needed_is attempt tasks _ here c.times.t _ _ (omega arith) c.demand_within-work.ensures.work c.demand_within-work.ensures.charge in
     let w = witness_is attempt tasks here c.times.t c.times.invariant.0 c.times.invariant.1 (omega (arith, e, c.if-needed-t.true)) c.times.invariant.3 in (
       length-set _ _ _ ∙ c.loop-place.invariant.0,
       λ place l r.
@@ -57,7 +57,7 @@ returns-then-needed-task-clause-unmet c =
     let order = c.deref-place-items.result.now in
     let place = get_or order c.loop-place.place-index 0 in
     let o : Ordered tasks order = subst (λ (ps : List ℕ). Ordered tasks ps) (sym c.deref-place-items.ensures.0) c.places_by_rank-order.ensures.ordered in
-    let e = needed_is attempt tasks _ place c.times.t _ _ refl c.demand_within-work.ensures.work c.demand_within-work.ensures.charge in
+    let e = needed_is attempt tasks _ place c.times.t _ _ (omega arith) c.demand_within-work.ensures.work c.demand_within-work.ensures.charge in
     let none = witness_none attempt tasks place c.times.t c.args.self.now.limits c.times.invariant.3 (omega (arith, e, c.if-needed-task.true)) in
     let long = ap (λ (ps : List ℕ). length ps) c.deref-place-items.ensures.0 in
     let k : c.loop-place.place-index < length tasks = omega (arith, long) in
