@@ -9,12 +9,10 @@ use crate::plan::{AdoptedTask, Rule};
 use crate::refusal::Refusal;
 use crate::span::Span;
 use crate::table::AdoptedTable;
-use crate::task::{Segment, Task};
+use crate::task::{MAX_TASKS, Segment, Task};
 use crate::task_set::TaskSet;
 use arrayvec::ArrayVec;
 use shelf::interface::Shelf;
-
-const MAX_TASKS: usize = 32;
 
 // A table that is to be taken, and what the call answers.
 #[derive(Drop)]

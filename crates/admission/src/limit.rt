@@ -4,12 +4,10 @@ ghost use Rattle.admission.specs.Verdicts.{has_fit_times, has_fit_range, has_fit
 use crate::lists::Lists;
 use crate::plan::Step;
 use crate::refusal::Refusal;
-use crate::task::{Segment, Task};
+use crate::task::{MAX_SEGMENTS, Segment, Task};
 use shelf::interface::Shelf;
 
-const MAX_PERIOD: u32 = 1_000_000;
-
-const MAX_SEGMENTS: u32 = 8;
+pub(crate) const MAX_PERIOD: u32 = 1_000_000;
 
 const MAX_COMPUTING: u32 = 100_000;
 
@@ -28,7 +26,7 @@ fn range_fits(segments: &[Segment], task: &Task) -> bool
     ensures { result ≡ has_fit_range segments.now task.now }
 {
     1 <= task.count
-        && task.count <= MAX_SEGMENTS
+        && task.count as usize <= MAX_SEGMENTS
         && task.first as usize + task.count as usize <= segments.len()
 }
 

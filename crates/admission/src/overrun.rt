@@ -4,6 +4,7 @@ ghost use Rattle.admission.specs.Limits.{NumberLimits};
 ghost use Rattle.admission.specs.Tables.{no_adopted_task};
 ghost use Rattle.admission.specs.Tests.{least_overrun, Steady};
 
+use crate::limit::MAX_PERIOD;
 use crate::plan::AdoptedTask;
 use crate::span::Span;
 use crate::task_set::TaskSet;
@@ -31,7 +32,7 @@ impl TaskSet<'_> {
         ensures near { result ≤ at.ticks + 1000000 }
         ensures steady { (a : ℕ) → a < length self.now.tasks.now → Steady (slice_index_or self.now.tasks.now a no_adopted_task) at.ticks result }
     {
-        let mut until = at.ticks + 1_000_000;
+        let mut until = at.ticks + MAX_PERIOD;
         for task in self.tasks {
             until = until.min(steady_until(task, at));
         }

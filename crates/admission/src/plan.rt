@@ -6,7 +6,7 @@ ghost use Rattle.admission.specs.Verdicts.{HasNumber};
 
 use crate::length::attempt_ticks;
 use crate::refusal::Refusal;
-use crate::task::Segment;
+use crate::task::{MAX_SEGMENTS, Segment};
 use arrayvec::ArrayVec;
 
 // How the jobs of a table are ordered.
@@ -130,4 +130,4 @@ pub struct AdoptedTask {
 }
 
 // The steps of a task's jobs.
-pub type Plan = ArrayVec<Step, 8>;
+pub type Plan = ArrayVec<Step, MAX_SEGMENTS>;

@@ -9,6 +9,7 @@ ghost use Rattle.admission.specs.Verdicts.{deadlines_no, unless};
 use crate::plan::Rule;
 use crate::refusal::Refusal;
 use crate::table::front;
+use crate::task::MAX_TASKS;
 use crate::task_set::TaskSet;
 use arrayvec::ArrayVec;
 
@@ -18,7 +19,7 @@ pub struct Passed {
     // The greatest witness, or the hyperperiod.
     pub answer: u32,
     // The least witness of each task, by its place; 0 under earliest deadline first.
-    pub witnesses: ArrayVec<u32, 32>,
+    pub witnesses: ArrayVec<u32, MAX_TASKS>,
 }
 
 fn greatest(numbers: &[u32]) -> u32
@@ -63,7 +64,7 @@ impl TaskSet<'_> {
         let answer = self.test_by_deadline()?;
         Ok(Passed {
             answer,
-            witnesses: front([0; 32], self.tasks.len()),
+            witnesses: front([0; MAX_TASKS], self.tasks.len()),
         })
     }
 }
