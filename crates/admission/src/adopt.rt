@@ -21,7 +21,8 @@ struct Decision {
     table: AdoptedTable,
 }
 
-// Asks all the questions about a table.
+// Asks all the questions about a table. The rule is still a number, as C has it: whether there is
+// such a rule is asked after the number of tasks.
 fn decide<S: Shelf>(
     shelf: &S,
     number: u32,

@@ -46,7 +46,7 @@ fn periods_in(span: u32, period: u32) -> (u32, u32)
 impl TaskSet<'_> {
     // By rank: the work and the retry charge that one task adds within a span. The limits of the
     // task are required here, no ghost fields of it: the definitions also speak of tasks without
-    // numbers.
+    // numbers. `small` is said again by `share_by_deadline` and `share`: a pair has no invariant.
     fn share_by_rank(&self, task: &AdoptedTask, rank: u32, span: Span) -> (u64, u64)
         requires { NumberLimits task.now }
         ensures work { result.0 ≡ work_by_rank rank span.ticks task.now }

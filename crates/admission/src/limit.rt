@@ -22,6 +22,7 @@ fn times_fit(task: &Task) -> bool
         && task.deadline <= task.period
 }
 
+// The lists come as two slices, here and below: nothing is known of them before they are `Lists`.
 fn range_fits(segments: &[Segment], task: &Task) -> bool
     ensures { result ≡ has_fit_range segments.now task.now }
 {
@@ -30,7 +31,8 @@ fn range_fits(segments: &[Segment], task: &Task) -> bool
         && task.first as usize + task.count as usize <= segments.len()
 }
 
-// Whether its kind is one of the three, and its size within the limits of the kind.
+// Whether its kind is one of the three, and its size within the limits of the kind. By the number:
+// this is the check of the number itself.
 fn size_fits(segment: &Segment) -> bool
     ensures { result ≡ has_fit_size segment.now }
 {

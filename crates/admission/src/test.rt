@@ -53,7 +53,7 @@ impl TaskSet<'_> {
         }
     }
 
-    // The test of a rule.
+    // The test of a rule, which is a parameter: it says what is asked of the numbers of the set.
     pub(crate) fn test(&self, rule: Rule) -> Result<Passed, Refusal>
         requires { (goes_by_rank rule ≡ true → Ranked self.now.tasks.now) }
         ensures { Tested rule self.now.attempt self.now.tasks.now result }
