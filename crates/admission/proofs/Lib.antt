@@ -6,6 +6,7 @@ pub mod Ranges
 pub mod Filling
 pub mod Greatest
 pub mod Firsts
+pub mod Counted
 pub mod Monotone
 pub mod Witnesses
 pub mod Divisors

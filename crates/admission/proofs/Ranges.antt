@@ -1,7 +1,7 @@
 -- Laws of sums, counts and greatest values over ranges, as loops and tests use them.
-use Rattle.std.proofs.Common.{◌≡◌, ℕ, zero, suc, ◌+◌, ◌<◌, ◌≤◌, max, Bool, true, false, cond, sym, refl, ap, ◌∙◌, subst, inl, inr, add-one, arith}
+use Rattle.std.proofs.Common.{◌≡◌, ℕ, zero, suc, ◌+◌, ◌<◌, ◌≤◌, Bool, true, false, cond, sym, refl, ap, ◌∙◌, subst, inl, inr, add-one, arith}
 use Rattle.std.proofs.lemmas.Bool.{cond-true, cond-false, cases_eq}
-use Rattle.admission.specs.Search.{sum_below, max_below, count_below}
+use Rattle.admission.specs.Search.{sum_below, count_below}
 
 -- one more term, as a loop adds it
 pub sum_more : (f : ℕ → ℕ) (n s x : ℕ) → s ≡ sum_below n f → x ≡ f n → s + x ≡ sum_below (n + 1) f
@@ -10,9 +10,6 @@ sum_more f n s x h e = rw add-one (ap (λ (y : ℕ). y + x) h ∙ ap (λ (y : �
 -- the end of such a loop
 pub sum_all : (f : ℕ → ℕ) (n m s : ℕ) → s ≡ sum_below n f → n ≡ m → s ≡ sum_below m f
 sum_all f n m s h e = h ∙ ap (λ (k : ℕ). sum_below k f) e
-
-pub max_more : (f : ℕ → ℕ) (n s x : ℕ) → s ≡ max_below n f → x ≡ f n → max s x ≡ max_below (n + 1) f
-max_more f n s x h e = rw add-one (ap (λ (y : ℕ). max y x) h ∙ ap (λ (y : ℕ). max (max_below n f) y) e)
 
 pub count_yes : (test : ℕ → Bool) (n s : ℕ) → s ≡ count_below n test → test n ≡ true → s + 1 ≡ count_below (n + 1) test
 count_yes test n s h e = sum_more (λ k. cond (test k) 1 0) n s 1 h (sym (cond-true (test n) 1 0 e))

@@ -1,7 +1,9 @@
 -- The time that jobs can ask for: work, and the charge for attempts that are made again.
 use Rattle.std.specs.Prelude.{ℕ, ◌+◌, ◌-◌, ◌*◌, ◌/◌, cond, List, length, get_or, nat_le, nat_lt, slice_index_or}
+use Rattle.admission.specs.declared.demand.Among.{Among}
+use Rattle.admission.specs.declared.demand.Among.TheVariants.{RankedUpTo, All}
 use Rattle.admission.specs.declared.plan.Rule.{Rule}
-use Rattle.admission.specs.declared.plan.Rule.TheVariants.{RateMonotonic, EarliestDeadlineFirst}
+use Rattle.admission.specs.declared.plan.Rule.TheVariants.{RateMonotonic, DeadlineMonotonic, EarliestDeadlineFirst}
 use Rattle.admission.specs.declared.plan.AdoptedTask.{AdoptedTask}
 use Rattle.admission.specs.Search.{sum_below}
 use Rattle.admission.specs.Tables.{goes_by_rank, no_adopted_task}
@@ -40,6 +42,20 @@ work_within rule tasks rank t = sum_below (length tasks) (λ a. work_share rule 
 abbrev pub charge_within : Rule → ℕ → List AdoptedTask → ℕ → ℕ → ℕ
 charge_within rule attempt tasks rank t =
     sum_below (length tasks) (λ a. charge_share rule attempt rank t (slice_index_or tasks a no_adopted_task))
+
+-- whose jobs a rule counts for a task of a rank, and the other way round
+abbrev pub among_of : Rule → ℕ → Among
+among_of RateMonotonic rank = RankedUpTo rank
+among_of DeadlineMonotonic rank = RankedUpTo rank
+among_of EarliestDeadlineFirst rank = All
+
+abbrev pub rule_among : Among → Rule
+rule_among (RankedUpTo rank) = RateMonotonic
+rule_among All = EarliestDeadlineFirst
+
+abbrev pub rank_among : Among → ℕ
+rank_among (RankedUpTo rank) = rank
+rank_among All = 0
 
 -- what the tasks ranked up to a rank can ask for within t ticks
 abbrev pub demand_up_to_rank : ℕ → List AdoptedTask → ℕ → ℕ → ℕ

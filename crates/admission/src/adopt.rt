@@ -1,19 +1,18 @@
-ghost use Rattle.std.specs.Prelude.{◌≡◌, ℕ, ◌<◌, ◌≤◌, List, map, length, Ok, Err, MatchResult};
+ghost use Rattle.std.specs.Prelude.{◌≡◌, ◌≤◌, length, Ok, Err};
 ghost use Rattle.admission.specs.Held.{held, Decided};
-ghost use Rattle.admission.specs.Tables.{empty_table, no_adopted_task};
-ghost use Rattle.admission.specs.Verdicts.{verdict, answered, held_after, list_after, stamped_by, answer_of, demanded};
+ghost use Rattle.admission.specs.Tables.{empty_table};
+ghost use Rattle.admission.specs.Verdicts.{verdict, answered, held_after, list_after, stamped_by, demanded};
 
+use crate::demand::Among;
 use crate::limit::check_lists;
 use crate::plan::{AdoptedTask, Rule};
 use crate::refusal::Refusal;
 use crate::span::Span;
 use crate::table::AdoptedTable;
-use crate::task::{Segment, Task};
+use crate::task::{MAX_TASKS, Segment, Task};
 use crate::task_set::TaskSet;
 use arrayvec::ArrayVec;
 use shelf::interface::Shelf;
-
-const MAX_TASKS: usize = 32;
 
 // A table that is to be taken, and what the call answers.
 #[derive(Drop)]
@@ -22,7 +21,8 @@ struct Decision {
     table: AdoptedTable,
 }
 
-// Asks all the questions about a table.
+// Asks all the questions about a table. The rule is still a number, as C has it: whether there is
+// such a rule is asked after the number of tasks.
 fn decide<S: Shelf>(
     shelf: &S,
     number: u32,
@@ -106,6 +106,7 @@ impl AdoptedTable {
     }
 
     // The work and the retry charge at a place within `t` ticks.
+    #[tactic(auto, using(crate::proofs::Counted::counted_is))]
     pub fn demand(&self, place: u32, t: u32) -> Result<(u64, u64), Refusal>
         ensures { result ≡ demanded (held self.now) place t }
     {
@@ -115,6 +116,7 @@ impl AdoptedTable {
         }
         let span = Span::try_from(t)?;
         let rank = self.tasks[place].rank;
-        Ok(self.task_set().demand_within(self.rule, rank, span))
+        let among = Among::of(self.rule, rank);
+        Ok(self.task_set().demand_within(among, span))
     }
 }

@@ -1,4 +1,4 @@
-ghost use Rattle.std.specs.Prelude.{◌≡◌, ℕ, ◌<◌, ◌≤◌, length, IfSome, MatchOption, Some, None};
+ghost use Rattle.std.specs.Prelude.{◌≡◌, ◌<◌, ◌≤◌, length, IfSome, MatchOption, Some, None};
 ghost use Rattle.admission.specs.Multiples.{IsGcd, IsLcm, IsHyperperiod};
 ghost use Rattle.admission.specs.Tests.{hyperperiod_of, load_of};
 

@@ -1,4 +1,4 @@
-ghost use Rattle.std.specs.Prelude.{◌≡◌, ℕ, ◌≤◌};
+ghost use Rattle.std.specs.Prelude.{◌≡◌, ◌≤◌};
 ghost use Rattle.admission.specs.Lengths.{attempt_ticks_of, cost, longest, longest_attempt_of};
 
 use crate::lists::{Lists, Owned};
@@ -12,7 +12,7 @@ pub fn attempt_ticks(size: u32) -> u32
     1 + size.div_ceil(4)
 }
 
-impl<'a> Owned<'a> {
+impl Owned<'_> {
     // The ticks of a job whose every access succeeds at the first attempt.
     pub(crate) fn job_cost(&self) -> u32
         ensures { result ≡ cost self.now.segments.now }
@@ -37,7 +37,7 @@ impl<'a> Owned<'a> {
     }
 }
 
-impl<'a> Lists<'a> {
+impl Lists<'_> {
     // The longest attempt of any task, 0 without accesses.
     pub(crate) fn longest_attempt(&self) -> u32
         ensures is { result ≡ longest_attempt_of self.now.segments.now self.now.tasks.now }

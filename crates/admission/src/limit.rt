@@ -1,15 +1,13 @@
-ghost use Rattle.std.specs.Prelude.{◌≡◌, ℕ, ◌+◌, ◌≤◌, Bool, length, IfOk, MatchResult};
+ghost use Rattle.std.specs.Prelude.{◌≡◌, ◌≤◌, length, IfOk, MatchResult};
 ghost use Rattle.admission.specs.Verdicts.{has_fit_times, has_fit_range, has_fit_size, has_object, segments_no, task_no, tasks_no, unless};
 
 use crate::lists::Lists;
 use crate::plan::Step;
 use crate::refusal::Refusal;
-use crate::task::{Segment, Task};
+use crate::task::{MAX_SEGMENTS, Segment, Task};
 use shelf::interface::Shelf;
 
-const MAX_PERIOD: u32 = 1_000_000;
-
-const MAX_SEGMENTS: u32 = 8;
+pub(crate) const MAX_PERIOD: u32 = 1_000_000;
 
 const MAX_COMPUTING: u32 = 100_000;
 
@@ -24,15 +22,17 @@ fn times_fit(task: &Task) -> bool
         && task.deadline <= task.period
 }
 
+// The lists come as two slices, here and below: nothing is known of them before they are `Lists`.
 fn range_fits(segments: &[Segment], task: &Task) -> bool
     ensures { result ≡ has_fit_range segments.now task.now }
 {
     1 <= task.count
-        && task.count <= MAX_SEGMENTS
+        && task.count as usize <= MAX_SEGMENTS
         && task.first as usize + task.count as usize <= segments.len()
 }
 
-// Whether its kind is one of the three, and its size within the limits of the kind.
+// Whether its kind is one of the three, and its size within the limits of the kind. By the number:
+// this is the check of the number itself.
 fn size_fits(segment: &Segment) -> bool
     ensures { result ≡ has_fit_size segment.now }
 {

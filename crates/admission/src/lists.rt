@@ -1,4 +1,4 @@
-ghost use Rattle.std.specs.Prelude.{◌≡◌, ℕ, ◌≤◌, length};
+ghost use Rattle.std.specs.Prelude.{◌≡◌, ◌≤◌, length};
 ghost use Rattle.admission.specs.Lengths.{owned};
 ghost use Rattle.admission.specs.Limits.{EachSegment, TaskLimits, TableLimits};
 
@@ -21,9 +21,9 @@ pub(crate) struct Lists<'a> {
     ghost limits: { TableLimits segments.now tasks.now },
 }
 
-impl<'a> Lists<'a> {
+impl Lists<'_> {
     // The segments of a task of the list.
-    pub(crate) fn owned(&self, task: &Task) -> Owned<'a>
+    pub(crate) fn owned(&self, task: &Task) -> Owned<'_>
         requires { TaskLimits self.now.segments.now task.now }
         ensures { result.segments.now ≡ owned self.now.segments.now task.now }
     {

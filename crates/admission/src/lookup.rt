@@ -47,7 +47,6 @@ impl AdoptedTable {
         ensures are { result.now ≡ plan_at (held self.now).plans place }
         ensures few { length result.now ≤ 8 }
     {
-        // Not by `get`: a tick has compared the place with the number of tasks already.
         if place < self.tasks.len() {
             &self.plans[place]
         } else {

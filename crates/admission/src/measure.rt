@@ -4,9 +4,10 @@ ghost use Rattle.admission.specs.Tables.{adopted_tasks_of, step_of, steps_in, pl
 use crate::lists::{Lists, Owned};
 use crate::plan::{AdoptedTask, Plan, Rule, Step};
 use crate::rank::rank_at;
+use crate::task::MAX_TASKS;
 use arrayvec::ArrayVec;
 
-impl<'a> Owned<'a> {
+impl Owned<'_> {
     // The steps of a job.
     fn plan(&self) -> Plan
         ensures { steps_in result ≡ map step_of self.now.segments.now }
@@ -19,9 +20,9 @@ impl<'a> Owned<'a> {
     }
 }
 
-impl<'a> Lists<'a> {
+impl Lists<'_> {
     // What the tests count of each task.
-    pub(crate) fn adopted_tasks(&self, rule: Rule) -> ArrayVec<AdoptedTask, 32>
+    pub(crate) fn adopted_tasks(&self, rule: Rule) -> ArrayVec<AdoptedTask, MAX_TASKS>
         ensures { result.items ≡ adopted_tasks_of rule self.now.segments.now self.now.tasks.now }
     {
         let mut all = ArrayVec::new();
@@ -37,7 +38,7 @@ impl<'a> Lists<'a> {
     }
 
     // The steps of each task's jobs.
-    pub(crate) fn plans(&self) -> ArrayVec<Plan, 32>
+    pub(crate) fn plans(&self) -> ArrayVec<Plan, MAX_TASKS>
         ensures { map steps_in result.items ≡ plans_of_tasks self.now.segments.now self.now.tasks.now }
     {
         let mut plans = ArrayVec::new();

@@ -4,12 +4,14 @@ ghost use Rattle.admission.specs.Limits.{NumberLimits};
 ghost use Rattle.admission.specs.Tables.{no_adopted_task};
 ghost use Rattle.admission.specs.Tests.{least_overrun, Steady};
 
+use crate::limit::MAX_PERIOD;
 use crate::plan::AdoptedTask;
 use crate::span::Span;
 use crate::task_set::TaskSet;
 
-// A time after another up to which the demand of one task does not change. The work of its jobs comes
-// due at d, d + p, d + 2p and so on, the charge for their retries one tick later.
+// A time after another up to which the demand of one task does not change. The work of its jobs
+// comes due at d, d + p, d + 2p and so on, the charge for their retries one tick later. A number,
+// no `Span`: it may lie past the longest one.
 fn steady_until(task: &AdoptedTask, at: Span) -> u32
     requires { NumberLimits task.now }
     ensures later { at.ticks < result }
@@ -31,7 +33,7 @@ impl TaskSet<'_> {
         ensures near { result ≤ at.ticks + 1000000 }
         ensures steady { (a : ℕ) → a < length self.now.tasks.now → Steady (slice_index_or self.now.tasks.now a no_adopted_task) at.ticks result }
     {
-        let mut until = at.ticks + 1_000_000;
+        let mut until = at.ticks + MAX_PERIOD;
         for task in self.tasks {
             until = until.min(steady_until(task, at));
         }

@@ -6,7 +6,7 @@ ghost use Rattle.admission.specs.Verdicts.{HasNumber};
 
 use crate::length::attempt_ticks;
 use crate::refusal::Refusal;
-use crate::task::Segment;
+use crate::task::{MAX_SEGMENTS, Segment};
 use arrayvec::ArrayVec;
 
 // How the jobs of a table are ordered.
@@ -18,7 +18,8 @@ pub enum Rule {
 }
 
 impl Rule {
-    // Whether the jobs are ordered by rank.
+    // Whether the jobs are ordered by rank. Callers switch on it: a rule is data of the table, with
+    // two orders.
     pub fn is_by_rank(self) -> bool
         ensures { result ≡ goes_by_rank self }
     {
@@ -77,7 +78,7 @@ impl Step {
         }
     }
 
-    // The ticks of an attempt, 0 for computing.
+    // The ticks of an attempt; 0 for computing, and no Option: the maximum is taken of it.
     pub(crate) fn attempt(self) -> u32
         ensures { result ≡ attempt_in self }
     {
@@ -97,7 +98,8 @@ impl Default for Step {
     }
 }
 
-// The step that a segment describes. Only here does the number of a kind become a step.
+// The step that a segment describes. Only here does the number of a kind become a step. A kind
+// above 2, which no table that is taken has, adds: no error is made that nothing could answer.
 impl From<Segment> for Step {
     ghost from_gives = { λ segment step. step ≡ step_of segment };
 
@@ -130,4 +132,4 @@ pub struct AdoptedTask {
 }
 
 // The steps of a task's jobs.
-pub type Plan = ArrayVec<Step, 8>;
+pub type Plan = ArrayVec<Step, MAX_SEGMENTS>;

@@ -22,7 +22,8 @@ pub enum Refusal {
     LongHyperperiod,
     // The load is above the hyperperiod.
     Overload,
-    // A deadline can be missed: the place of the task, or the least time that fails.
+    // A deadline can be missed: the place of the task, or the least time that fails. One number, as
+    // in the fixed format of the answers: the rule that was asked for says which.
     Unschedulable { at: u32 },
     // A batch is open already.
     AlreadyOpen,

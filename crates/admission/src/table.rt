@@ -4,6 +4,7 @@ ghost use Rattle.admission.specs.Tables.{goes_by_rank};
 ghost use Rattle.admission.specs.Tests.{MeetsByRank, MeetsByDeadline, RanksBelow, PlacesEntered, EntriesBelow, EntriesRanked};
 
 use crate::plan::{AdoptedTask, Plan, Rule};
+use crate::task::MAX_TASKS;
 use arrayvec::ArrayVec;
 
 // A table that was taken. It meets its inequality at every moment: by rank each task has a witness,
@@ -14,11 +15,11 @@ pub struct AdoptedTable {
     pub(crate) rule: Rule,
     // The longest attempt of any task.
     pub(crate) attempt: u32,
-    pub(crate) tasks: ArrayVec<AdoptedTask, 32>,
-    pub(crate) witnesses: ArrayVec<u32, 32>,
-    pub(crate) plans: ArrayVec<Plan, 32>,
+    pub(crate) tasks: ArrayVec<AdoptedTask, MAX_TASKS>,
+    pub(crate) witnesses: ArrayVec<u32, MAX_TASKS>,
+    pub(crate) plans: ArrayVec<Plan, MAX_TASKS>,
     // By rank: the places, the most urgent first.
-    pub(crate) order: ArrayVec<usize, 32>,
+    pub(crate) order: ArrayVec<usize, MAX_TASKS>,
     ghost few: { length tasks.items ≤ 32 },
     ghost witnessed: { length witnesses.items ≡ length tasks.items },
     ghost planned: { length plans.items ≡ length tasks.items },
@@ -36,7 +37,10 @@ pub struct AdoptedTable {
 }
 
 // The front of an array.
-pub(crate) fn front<T: Default + Drop>(array: [T; 32], count: usize) -> ArrayVec<T, 32>
+pub(crate) fn front<T: Default + Drop>(
+    array: [T; MAX_TASKS],
+    count: usize,
+) -> ArrayVec<T, MAX_TASKS>
     ensures { result.items ≡ take count array }
 {
     let mut list = ArrayVec::from(array);

@@ -1,6 +1,12 @@
 ghost use Rattle.std.specs.Prelude.{◌≡◌, ◌+◌, ◌≤◌, length};
 ghost use Rattle.admission.specs.Lengths.{owned};
 
+// The most tasks of a table.
+pub const MAX_TASKS: usize = 32;
+
+// The most segments of a task, and so the most steps of its jobs.
+pub const MAX_SEGMENTS: usize = 8;
+
 // A task as the caller describes it. Rank and witness are written when its table is taken.
 // Both records are laid out as in C, so that a slice of them can be handed in from other languages;
 // so a kind is a number, and 0 stands for no rank and no witness.

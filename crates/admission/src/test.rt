@@ -1,4 +1,4 @@
-ghost use Rattle.std.specs.Prelude.{◌≡◌, ℕ, ◌<◌, ◌≤◌, true, length, slice_index};
+ghost use Rattle.std.specs.Prelude.{◌≡◌, true, length, slice_index};
 ghost use Rattle.std.specs.Option.{unwrap_or};
 ghost use Rattle.admission.specs.Passing.{Tested};
 ghost use Rattle.admission.specs.Search.{max_below};
@@ -9,6 +9,7 @@ ghost use Rattle.admission.specs.Verdicts.{deadlines_no, unless};
 use crate::plan::Rule;
 use crate::refusal::Refusal;
 use crate::table::front;
+use crate::task::MAX_TASKS;
 use crate::task_set::TaskSet;
 use arrayvec::ArrayVec;
 
@@ -18,17 +19,13 @@ pub struct Passed {
     // The greatest witness, or the hyperperiod.
     pub answer: u32,
     // The least witness of each task, by its place; 0 under earliest deadline first.
-    pub witnesses: ArrayVec<u32, 32>,
+    pub witnesses: ArrayVec<u32, MAX_TASKS>,
 }
 
 fn greatest(numbers: &[u32]) -> u32
     ensures { result ≡ max_below (length numbers.now) (λ k. slice_index numbers.now k) }
 {
-    let mut most: u32 = 0;
-    for number in numbers {
-        most = most.max(*number);
-    }
-    most
+    numbers.iter().copied().max().unwrap_or(0)
 }
 
 impl TaskSet<'_> {
@@ -56,7 +53,7 @@ impl TaskSet<'_> {
         }
     }
 
-    // The test of a rule.
+    // The test of a rule, which is a parameter: it says what is asked of the numbers of the set.
     pub(crate) fn test(&self, rule: Rule) -> Result<Passed, Refusal>
         requires { (goes_by_rank rule ≡ true → Ranked self.now.tasks.now) }
         ensures { Tested rule self.now.attempt self.now.tasks.now result }
@@ -67,7 +64,7 @@ impl TaskSet<'_> {
         let answer = self.test_by_deadline()?;
         Ok(Passed {
             answer,
-            witnesses: front([0; 32], self.tasks.len()),
+            witnesses: front([0; MAX_TASKS], self.tasks.len()),
         })
     }
 }

@@ -1,53 +1,44 @@
-ghost use Rattle.std.specs.Prelude.{◌≡◌, ℕ, ◌+◌, ◌<◌, ◌≤◌, length, IfOk, Some, None, MatchOption, MatchResult, ◌≢◌, slice_index, slice_index_or};
-ghost use Rattle.admission.specs.Tables.{no_adopted_task};
+ghost use Rattle.std.specs.Prelude.{◌≡◌, ℕ, ◌<◌, length, IfOk, Some, None, MatchResult, slice_index};
 ghost use Rattle.admission.specs.Tests.{least_witness, lowest_unmet, Ranked};
 ghost use Rattle.admission.specs.Verdicts.{ranks_no};
 
-use crate::plan::{AdoptedTask, Rule};
+use crate::demand::Among;
 use crate::refusal::Refusal;
 use crate::span::Span;
 use crate::table::front;
+use crate::task::MAX_TASKS;
 use crate::task_set::TaskSet;
 use arrayvec::ArrayVec;
-
-// The place of the task that has a rank.
-fn place_ranked(tasks: &[AdoptedTask], rank: u32) -> Option<usize>
-    ensures { MatchOption result ((k : ℕ) → k < length tasks.now → (slice_index_or tasks.now k no_adopted_task).rank ≢ rank) (λ place. (place < length tasks.now) × ((slice_index_or tasks.now place no_adopted_task).rank ≡ rank)) }
-{
-    tasks.iter().position(|task| task.rank == rank)
-}
 
 impl TaskSet<'_> {
     // The least witness of each task, by its place. The tasks are asked in the order of their ranks,
     // and the first that has none is refused.
-    pub(crate) fn find_witnesses(&self) -> Result<ArrayVec<u32, 32>, Refusal>
+    pub(crate) fn find_witnesses(&self) -> Result<ArrayVec<u32, MAX_TASKS>, Refusal>
         requires { Ranked self.now.tasks.now }
         ensures unmet { MatchResult result (λ _. lowest_unmet self.now.attempt self.now.tasks.now ≡ None) (λ refusal. ranks_no self.now.attempt self.now.tasks.now ≡ Some refusal) }
         ensures long { IfOk result (λ witnesses. length witnesses.items ≡ length self.now.tasks.now) }
         ensures least { IfOk result (λ witnesses. (place : ℕ) → place < length self.now.tasks.now → least_witness self.now.attempt self.now.tasks.now place ≡ Some (slice_index witnesses.items place)) }
     {
+        let order = self.places_by_rank();
         // An array, since the witnesses are written in the order of the ranks.
-        let mut witnesses = [0; 32];
+        let mut witnesses = [0; MAX_TASKS];
         'tasks: {
-            for rank in 0..self.tasks.len() as u32 {
-                if let Some(place) = place_ranked(self.tasks, rank) {
-                    let deadline = self.tasks[place].deadline;
-                    let mut t: u32 = 1;
-                    witnesses[place] = 'times: loop {
-                        let span = Span { ticks: t };
-                        let (work, charge) = self.demand_within(Rule::RateMonotonic, rank, span);
-                        let needed = work + charge;
-                        if needed <= t as u64 {
-                            break 'times t;
-                        }
-                        if needed > deadline as u64 {
-                            break 'tasks Err(Refusal::Unschedulable { at: place as u32 });
-                        }
-                        // The demand never falls as time passes, so no time before `needed` is
-                        // enough.
-                        t = needed as u32;
-                    };
-                }
+            for &place in order.iter() {
+                let task = self.tasks[place];
+                let among = Among::RankedUpTo(task.rank);
+                let mut t: u32 = 1;
+                witnesses[place] = 'times: loop {
+                    let (work, charge) = self.demand_within(among, Span { ticks: t });
+                    let needed = work + charge;
+                    if needed <= t as u64 {
+                        break 'times t;
+                    }
+                    if needed > task.deadline as u64 {
+                        break 'tasks Err(Refusal::Unschedulable { at: place as u32 });
+                    }
+                    // The demand never falls as time passes, so no time before `needed` is enough.
+                    t = needed as u32;
+                };
             }
             Ok(front(witnesses, self.tasks.len()))
         }

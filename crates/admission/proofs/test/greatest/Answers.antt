@@ -1,10 +1,8 @@
-use Rattle.std.proofs.Common.{ℕ, get_or, refl, ap, ◌∙◌, arith}
-use Rattle.admission.specs.Search.{max_below}
-use Rattle.admission.proofs.Ranges.{max_more}
+use Rattle.std.proofs.Common.{get_or, length, rules, ◌∙◌}
+use Rattle.admission.proofs.Greatest.{greatest_below}
 use Rattle.admission.proofs.test.greatest.Goals as goal
 
-pub loop-number-preserved : goal.loop-number-preserved
-loop-number-preserved c = c.max-most.ensures ∙ max_more _ _ _ _ c.loop-number.invariant refl
-
 pub returns : goal.returns
-returns c = c.loop-number.invariant ∙ ap (λ (n : ℕ). max_below n (λ k. get_or c.args.numbers.now k 0)) (omega arith)
+returns c =
+    c.unwrap_or.ensures
+    ∙ greatest_below (λ k. get_or c.args.numbers.now k 0) (length c.args.numbers.now) c.max.result (search rules) (search rules) (search rules)
