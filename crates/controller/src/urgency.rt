@@ -1,10 +1,11 @@
-ghost use Rattle.std.specs.Prelude.{◌≡◌, ◌<◌, true, length, IfSome};
+ghost use Rattle.std.specs.Prelude.{◌≡◌, true, length};
+ghost use Rattle.std.specs.Option.{option_map};
 ghost use Rattle.admission.specs.Held.{held};
 ghost use Rattle.admission.specs.Search.{count_below};
 ghost use Rattle.admission.specs.Tables.{goes_by_rank};
 ghost use Rattle.controller.specs.Choices.{urgency_of, chosen, pending_at};
 
-use crate::batch::OpenBatch;
+use crate::batch::{OpenBatch, Place};
 use crate::job::Job;
 use admission::plan::{AdoptedTask, Rule};
 use admission::table::AdoptedTable;
@@ -24,9 +25,8 @@ fn urgency(rule: Rule, task: &AdoptedTask, job: &Job) -> (u64, u64)
 impl OpenBatch {
     // The place of the pending job that works next: the most urgent, and of equals the lowest place. By
     // rank, the order of the places finds it with no comparing.
-    pub(crate) fn next_place(&self, table: &AdoptedTable) -> Option<usize>
-        ensures is { result ≡ chosen (held table.now).rule (held table.now).tasks self.now.jobs }
-        ensures inside { IfSome result (λ place. place < 32) }
+    pub(crate) fn next_place(&self, table: &AdoptedTable) -> Option<Place>
+        ensures { option_map (λ place. place.index) result ≡ chosen (held table.now).rule (held table.now).tasks self.now.jobs }
     {
         if table.rule().is_by_rank() {
             self.lowest_ranked(table)
@@ -36,33 +36,32 @@ impl OpenBatch {
     }
 
     // By rank: the pending job of lowest rank, the first that the order of the places comes to.
-    fn lowest_ranked(&self, table: &AdoptedTable) -> Option<usize>
+    fn lowest_ranked(&self, table: &AdoptedTable) -> Option<Place>
         requires { goes_by_rank (held table.now).rule ≡ true }
-        ensures is { result ≡ chosen (held table.now).rule (held table.now).tasks self.now.jobs }
-        ensures inside { IfSome result (λ place. place < 32) }
+        ensures { option_map (λ place. place.index) result ≡ chosen (held table.now).rule (held table.now).tasks self.now.jobs }
     {
-        table
+        let index = table
             .order()
             .iter()
             .copied()
-            .find(|place| self.jobs[*place].state.is_pending())
+            .find(|place| self.jobs[*place].state.is_pending())?;
+        Some(Place { index })
     }
 
     // Under any rule: the most urgent pending job, found by comparing all of them, and of equals the
     // first. A loop: with `min_by_key` a tick by deadline of 32 tasks takes 40 % more instructions.
-    fn most_urgent(&self, table: &AdoptedTable) -> Option<usize>
-        ensures is { result ≡ chosen (held table.now).rule (held table.now).tasks self.now.jobs }
-        ensures inside { IfSome result (λ place. place < 32) }
+    fn most_urgent(&self, table: &AdoptedTable) -> Option<Place>
+        ensures { option_map (λ place. place.index) result ≡ chosen (held table.now).rule (held table.now).tasks self.now.jobs }
     {
-        let mut best: Option<(usize, (u64, u64))> = None;
-        for (place, task) in table.tasks().iter().enumerate() {
-            let job = &self.jobs[place];
+        let mut best: Option<(Place, (u64, u64))> = None;
+        for (index, task) in table.tasks().iter().enumerate() {
+            let job = &self.jobs[index];
             if !job.state.is_pending() {
                 continue;
             }
             let urgency = urgency(table.rule(), task, job);
             if best.is_none_or(|(_, least)| urgency < least) {
-                best = Some((place, urgency));
+                best = Some((Place { index }, urgency));
             }
         }
         best.map(|(place, _)| place)
