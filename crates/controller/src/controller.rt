@@ -19,7 +19,8 @@ pub struct Core {
     batch: Option<OpenBatch>,
 }
 
-// A controller over a shelf that nobody else touches.
+// A controller over a shelf that nobody else touches. No impl Model: a machine holds a function, the
+// rules of its objects, and a model's value cannot.
 #[derive(Drop)]
 pub struct Controller<S> {
     shelf: S,
