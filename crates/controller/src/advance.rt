@@ -14,7 +14,8 @@ pub enum Outcome {
 }
 
 // The reading that an attempt goes by: its first tick looks, before anything else. 0 for computing,
-// which reads nothing; an Option would be taken apart in the one arm that has it.
+// which reads nothing; an Option would be taken apart in the one arm that has it. State and step are
+// handed to it and to `commit_if_due` one by one: no type of both, since `advance` matches on each.
 fn reading_for<S: Shelf>(shelf: &S, state: JobState, step: Step) -> u32
     ensures { result ≡ goes_by (S.Shelf.model shelf.now) state step }
 {

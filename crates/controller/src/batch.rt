@@ -22,7 +22,8 @@ pub(crate) struct Place {
 #[derive(Debug, Drop, PartialEq, Eq)]
 pub struct OpenBatch {
     pub(crate) tally: Tally,
-    // The latest job of each place.
+    // The latest job of each place. An array beside the lists of the table: the chosen record is lent
+    // for writing, a rule of the project.
     pub(crate) jobs: [Job; 32],
     // The place of the job that worked on the last tick, unless it finished.
     last: Option<usize>,
@@ -110,6 +111,7 @@ impl OpenBatch {
         ensures shelf { S.Shelf.model shelf.new ≡ (choice_tick (S.Shelf.model shelf.old) (held table.now) (batch_in self.old) (Some place.index)).model }
     {
         let job = &mut self.jobs[place.index];
+        // No `?`: a job without a step is an answer, an idle tick, and not an error.
         let Some(step) = table.step(place.index, job.step) else {
             return self.idle();
         };

@@ -19,7 +19,8 @@ pub struct Core {
     batch: Option<OpenBatch>,
 }
 
-// A controller over a shelf that nobody else touches.
+// A controller over a shelf that nobody else touches. No impl Model: a machine holds a function, the
+// rules of its objects, and a model's value cannot.
 #[derive(Drop)]
 pub struct Controller<S> {
     shelf: S,
@@ -78,10 +79,7 @@ impl<S: Shelf> Controller<S> {
         ensures answer { result ≡ releasing (machine (S.Shelf.model self.old.shelf) self.old.core) place }
         ensures machine { machine (S.Shelf.model self.new.shelf) self.new.core ≡ released (machine (S.Shelf.model self.old.shelf) self.old.core) place }
     {
-        // No `as_mut().ok_or(..)?`, here and in `tick`: with it a tick takes an eighth more instructions.
-        let Some(batch) = &mut self.core.batch else {
-            return Err(Refusal::NoBatch);
-        };
+        let batch = self.core.batch.as_mut().ok_or(Refusal::NoBatch)?;
         batch.release(&self.core.table, place as usize)
     }
 
@@ -90,6 +88,7 @@ impl<S: Shelf> Controller<S> {
         ensures answer { result ≡ ticking (machine (S.Shelf.model self.old.shelf) self.old.core) }
         ensures machine { machine (S.Shelf.model self.new.shelf) self.new.core ≡ ticked (machine (S.Shelf.model self.old.shelf) self.old.core) }
     {
+        // No `as_mut().ok_or(..)?`: ticks by rank fall below the peer's speed with it.
         let Some(batch) = &mut self.core.batch else {
             return Err(Refusal::NoBatch);
         };

@@ -5,7 +5,7 @@ ghost use Rattle.controller.specs.Turns.{pending_in, left_in, seen_in, start_of}
 
 use admission::plan::Step;
 
-// Where a job stands in its present step.
+// Where a job stands in its present step. No Option of what is pending: there are two kinds of it.
 #[derive(Clone, Copy, Debug, Default, PartialEq, Eq)]
 pub enum JobState {
     // It has finished, or there is none.
@@ -18,7 +18,8 @@ pub enum JobState {
 }
 
 impl JobState {
-    // A job at the start of a step, or at rest after the last.
+    // A job at the start of a step, or at rest after the last. No From: an Option is not a state by
+    // itself, and the name says which state of the step is meant.
     pub(crate) fn start_of(step: Option<Step>) -> JobState
         ensures { result ≡ start_of step }
     {
@@ -42,7 +43,8 @@ impl JobState {
         }
     }
 
-    // The ticks left of the present step; none at rest.
+    // The ticks left of the present step. 0 at rest and no Option, as its definition has it: what is
+    // asked is whether there are more than one.
     pub(crate) fn ticks_left(self) -> u32
         ensures { result ≡ left_in self }
     {
@@ -53,7 +55,8 @@ impl JobState {
         }
     }
 
-    // The reading that an attempt goes by; 0 for the others, whose steps read nothing.
+    // The reading that an attempt goes by. 0 for the others, whose steps read nothing, and no Option,
+    // as its definition has it.
     pub(crate) fn reading_seen(self) -> u32
         ensures { result ≡ seen_in self }
     {
@@ -106,7 +109,8 @@ impl Event {
         matches!(self, Event::Retried { .. })
     }
 
-    // Three plain numbers: the answer format has all three for each event, 0 where there is none.
+    // The fixed format of the answers has three plain numbers for each event: its own number, the
+    // object of an access and the word that was committed, 0 where there is none.
     pub fn number(&self) -> u32
         ensures { result ≡ event_number self.now }
     {
@@ -119,7 +123,6 @@ impl Event {
         }
     }
 
-    // The object of an access, or 0.
     pub fn object(&self) -> u32
         ensures { result ≡ event_object self.now }
     {
@@ -130,7 +133,6 @@ impl Event {
         }
     }
 
-    // The word that was committed, or 0.
     pub fn word(&self) -> u32
         ensures { result ≡ event_word self.now }
     {
@@ -141,8 +143,8 @@ impl Event {
     }
 }
 
-// What tick answers: who worked, what it did, and whether the job finished. The answer format has a
-// place for each tick, 0 if nobody worked.
+// What tick answers: who worked, what it did, and whether the job finished. The fixed format of the
+// answers has all three for each tick, place 0 and no if nobody worked.
 #[derive(Clone, Copy, Debug, PartialEq, Eq)]
 pub struct Ticked {
     pub place: u32,

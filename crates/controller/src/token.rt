@@ -9,6 +9,7 @@ pub struct BatchToken {
     spent: bool,
 }
 
+// By hand, a rule of the project: a derived drop would ask for nothing.
 impl Drop for BatchToken {
     fn drop(self)
         requires { self.spent ≡ true }

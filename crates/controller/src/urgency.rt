@@ -18,6 +18,7 @@ fn urgency(rule: Rule, task: &AdoptedTask, job: &Job) -> (u64, u64)
     if rule.is_by_rank() {
         return (task.rank as u64, 0);
     }
+    // 0 with no release, as its definition has it: pending jobs, which are compared, have one.
     let released = job.released.unwrap_or(0) as u64;
     (released + task.deadline as u64, released)
 }
@@ -49,7 +50,7 @@ impl OpenBatch {
     }
 
     // Under any rule: the most urgent pending job, found by comparing all of them, and of equals the
-    // first. A loop: with `min_by_key` a tick by deadline of 32 tasks takes 40 % more instructions.
+    // first. A loop: `min_by_key` makes ticks by deadline slower.
     fn most_urgent(&self, table: &AdoptedTable) -> Option<Place>
         ensures { option_map (λ place. place.index) result ≡ chosen (held table.now).rule (held table.now).tasks self.now.jobs }
     {

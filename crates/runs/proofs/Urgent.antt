@@ -1,6 +1,6 @@
 -- The job that is chosen is the most urgent in the order of its rule.
-use Rattle.std.proofs.Common.{◌≡◌, ℕ, zero, suc, ◌+◌, ◌<◌, Bool, true, false, List, length, get_or, Some, None, Option, sym, inl, inr, add-one, arith}
-use Rattle.std.proofs.lemmas.Bool.{cases_Bool, cases_order}
+use Rattle.std.proofs.Common.{◌≡◌, ℕ, ◌+◌, ◌<◌, Bool, true, false, List, length, get_or, Some, sym, inl, inr, arith}
+use Rattle.std.proofs.lemmas.Bool.{cases_order}
 use Rattle.admission.specs.declared.plan.Rule.{Rule}
 use Rattle.admission.specs.declared.plan.AdoptedTask.{AdoptedTask}
 use Rattle.admission.specs.Tables.{goes_by_rank, no_adopted_task}

@@ -2,8 +2,8 @@ use admission::refusal::Refusal;
 use admission::task::{Segment, Task};
 use controller::job::{Sums, Ticked};
 
-// A call with its arguments, as the controller takes them. Close names the token to hand in by its position among those still
-// held, oldest first.
+// A call with its arguments, as the controller takes them. Close names the token to hand in by its
+// position among those still held, oldest first.
 #[derive(Debug, Drop)]
 pub enum Call {
     Adopt {

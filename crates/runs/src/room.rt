@@ -7,6 +7,7 @@ use std::alloc::{AllocError, Global};
 // Memory for a run of so many calls, set aside before the first of them: each call answers once,
 // and brings at most one token.
 pub struct Room {
+    // The number that was asked for: a vector may have room for more.
     pub(crate) calls: usize,
     pub(crate) answers: Vec<Answer>,
     pub(crate) tokens: Vec<BatchToken>,

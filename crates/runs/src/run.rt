@@ -1,4 +1,4 @@
-ghost use Rattle.std.specs.Prelude.{◌≡◌, ℕ, ◌≤◌, map, length, is_ok, vec_len, vec_capacity, IfOk, MatchResult, nat_le, nat_lt};
+ghost use Rattle.std.specs.Prelude.{◌≡◌, ℕ, ◌≤◌, map, length, is_ok, IfOk, MatchResult, nat_le, nat_lt};
 ghost use Rattle.controller.specs.Machines.{machine, closed};
 ghost use Rattle.runs.specs.Entries.{entry_of, goods, good_in};
 ghost use Rattle.runs.specs.Ledger.{start};
