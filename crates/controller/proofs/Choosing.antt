@@ -4,12 +4,7 @@ use Rattle.std.proofs.lemmas.Bool.{cases_Bool, cases_eq, both_ways, or_cases, or
 use Rattle.std.specs.Option.{MatchOption, option_map}
 use Rattle.admission.specs.Search.{first_below, some_below}
 use Rattle.admission.proofs.Firsts.{first_none, first_some, some_true, some_false}
-use Rattle.controller.specs.declared.batch.Place.{Place}
 use Rattle.controller.specs.Choices.{is_more_urgent}
-
--- the best so far, with its place as a number
-abbrev pub kept_in : Option (Place × (ℕ × ℕ)) → Option (ℕ × (ℕ × ℕ))
-kept_in o = option_map (λ (b : Place × (ℕ × ℕ)). (b.0.index, b.1)) o
 
 -- one urgency is lower than another, or it is not
 abbrev pub Lower : ℕ × ℕ → ℕ × ℕ → Type 0

@@ -11,13 +11,6 @@ use admission::refusal::Refusal;
 use admission::table::AdoptedTable;
 use shelf::interface::Shelf;
 
-// A place that has a job record.
-#[derive(Clone, Copy, Debug, PartialEq, Eq)]
-pub(crate) struct Place {
-    pub(crate) index: usize,
-    ghost inside: { index < 32 },
-}
-
 // An open batch.
 #[derive(Debug, Drop, PartialEq, Eq)]
 pub struct OpenBatch {
@@ -104,29 +97,29 @@ impl OpenBatch {
     }
 
     // The tick of the job of a place.
-    fn work<S: Shelf>(&mut self, shelf: &mut S, table: &AdoptedTable, place: Place) -> Ticked
-        requires { self.old.tally.clock < 1000000000 }
-        ensures answer { result ≡ (choice_tick (S.Shelf.model shelf.old) (held table.now) (batch_in self.old) (Some place.index)).answer }
-        ensures batch { batch_in self.new ≡ (choice_tick (S.Shelf.model shelf.old) (held table.now) (batch_in self.old) (Some place.index)).batch }
-        ensures shelf { S.Shelf.model shelf.new ≡ (choice_tick (S.Shelf.model shelf.old) (held table.now) (batch_in self.old) (Some place.index)).model }
+    fn work<S: Shelf>(&mut self, shelf: &mut S, table: &AdoptedTable, place: usize) -> Ticked
+        requires { (place < 32) × (self.old.tally.clock < 1000000000) }
+        ensures answer { result ≡ (choice_tick (S.Shelf.model shelf.old) (held table.now) (batch_in self.old) (Some place)).answer }
+        ensures batch { batch_in self.new ≡ (choice_tick (S.Shelf.model shelf.old) (held table.now) (batch_in self.old) (Some place)).batch }
+        ensures shelf { S.Shelf.model shelf.new ≡ (choice_tick (S.Shelf.model shelf.old) (held table.now) (batch_in self.old) (Some place)).model }
     {
-        let job = &mut self.jobs[place.index];
+        let index = self.jobs[place].step;
         // No `?`: a job without a step is an answer, an idle tick, and not an error.
-        let Some(step) = table.step(place.index, job.step) else {
+        let Some(step) = table.step(place, index) else {
             return self.idle();
         };
-        let next = table.step(place.index, job.step + 1);
-        let event = advance(shelf, job, step, next);
+        let next = table.step(place, index + 1);
+        let event = advance(shelf, &mut self.jobs[place], step, next);
         self.count(place, event)
     }
 
     // Counts a tick on which the job of a place has worked.
-    fn count(&mut self, place: Place, event: Event) -> Ticked
-        requires { self.old.tally.clock < 1000000000 }
-        ensures answer { result ≡ record { place = place.index; event = event; finished = not (pending_at self.old.jobs place.index) } }
-        ensures batch { batch_in self.new ≡ counted (batch_in self.old) place.index event }
+    fn count(&mut self, place: usize, event: Event) -> Ticked
+        requires { (place < 32) × (self.old.tally.clock < 1000000000) }
+        ensures answer { result ≡ record { place = place; event = event; finished = not (pending_at self.old.jobs place) } }
+        ensures batch { batch_in self.new ≡ counted (batch_in self.old) place event }
     {
-        let finished = !self.jobs[place.index].state.is_pending();
+        let finished = !self.jobs[place].state.is_pending();
         self.tally.clock += 1;
         if finished {
             self.tally.finished += 1;
@@ -135,12 +128,12 @@ impl OpenBatch {
             self.tally.retries += 1;
         }
         // A preemption: another job, which worked on the last tick, is unfinished.
-        if self.last.is_some_and(|other| other != place.index) {
+        if self.last.is_some_and(|other| other != place) {
             self.tally.preemptions += 1;
         }
-        self.last = if finished { None } else { Some(place.index) };
+        self.last = if finished { None } else { Some(place) };
         Ticked {
-            place: place.index as u32,
+            place: place as u32,
             event,
             finished,
         }

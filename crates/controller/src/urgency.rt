@@ -1,11 +1,10 @@
-ghost use Rattle.std.specs.Prelude.{◌≡◌, true, length};
-ghost use Rattle.std.specs.Option.{option_map};
+ghost use Rattle.std.specs.Prelude.{◌≡◌, ◌<◌, true, length, IfSome};
 ghost use Rattle.admission.specs.Held.{held};
 ghost use Rattle.admission.specs.Search.{count_below};
 ghost use Rattle.admission.specs.Tables.{goes_by_rank};
 ghost use Rattle.controller.specs.Choices.{urgency_of, chosen, pending_at};
 
-use crate::batch::{OpenBatch, Place};
+use crate::batch::OpenBatch;
 use crate::job::Job;
 use admission::plan::{AdoptedTask, Rule};
 use admission::table::AdoptedTable;
@@ -24,10 +23,12 @@ fn urgency(rule: Rule, task: &AdoptedTask, job: &Job) -> (u64, u64)
 }
 
 impl OpenBatch {
-    // The place of the pending job that works next: the most urgent, and of equals the lowest place. By
-    // rank, the order of the places finds it with no comparing.
-    pub(crate) fn next_place(&self, table: &AdoptedTable) -> Option<Place>
-        ensures { option_map (λ place. place.index) result ≡ chosen (held table.now).rule (held table.now).tasks self.now.jobs }
+    // The place of the pending job that works next: the most urgent, and of equals the lowest place.
+    // By rank, the order of the places finds it with no comparing. That a place is below 32 is a
+    // clause, and no type of places: ticks by rank fall below the peer's speed with one.
+    pub(crate) fn next_place(&self, table: &AdoptedTable) -> Option<usize>
+        ensures is { result ≡ chosen (held table.now).rule (held table.now).tasks self.now.jobs }
+        ensures inside { IfSome result (λ place. place < 32) }
     {
         if table.rule().is_by_rank() {
             self.lowest_ranked(table)
@@ -37,32 +38,33 @@ impl OpenBatch {
     }
 
     // By rank: the pending job of lowest rank, the first that the order of the places comes to.
-    fn lowest_ranked(&self, table: &AdoptedTable) -> Option<Place>
+    fn lowest_ranked(&self, table: &AdoptedTable) -> Option<usize>
         requires { goes_by_rank (held table.now).rule ≡ true }
-        ensures { option_map (λ place. place.index) result ≡ chosen (held table.now).rule (held table.now).tasks self.now.jobs }
+        ensures is { result ≡ chosen (held table.now).rule (held table.now).tasks self.now.jobs }
+        ensures inside { IfSome result (λ place. place < 32) }
     {
-        let index = table
+        table
             .order()
             .iter()
             .copied()
-            .find(|place| self.jobs[*place].state.is_pending())?;
-        Some(Place { index })
+            .find(|place| self.jobs[*place].state.is_pending())
     }
 
     // Under any rule: the most urgent pending job, found by comparing all of them, and of equals the
     // first. A loop: `min_by_key` makes ticks by deadline slower.
-    fn most_urgent(&self, table: &AdoptedTable) -> Option<Place>
-        ensures { option_map (λ place. place.index) result ≡ chosen (held table.now).rule (held table.now).tasks self.now.jobs }
+    fn most_urgent(&self, table: &AdoptedTable) -> Option<usize>
+        ensures is { result ≡ chosen (held table.now).rule (held table.now).tasks self.now.jobs }
+        ensures inside { IfSome result (λ place. place < 32) }
     {
-        let mut best: Option<(Place, (u64, u64))> = None;
-        for (index, task) in table.tasks().iter().enumerate() {
-            let job = &self.jobs[index];
+        let mut best: Option<(usize, (u64, u64))> = None;
+        for (place, task) in table.tasks().iter().enumerate() {
+            let job = &self.jobs[place];
             if !job.state.is_pending() {
                 continue;
             }
             let urgency = urgency(table.rule(), task, job);
             if best.is_none_or(|(_, least)| urgency < least) {
-                best = Some((Place { index }, urgency));
+                best = Some((place, urgency));
             }
         }
         best.map(|(place, _)| place)

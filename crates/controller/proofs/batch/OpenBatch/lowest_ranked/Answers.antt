@@ -1,11 +1,9 @@
-use Rattle.std.proofs.Common.{◌≡◌, ℕ, ◌<◌, ◌≤◌, false, true, length, get_or, Some, ◌∙◌, arith, rules, tests}
+use Rattle.std.proofs.Common.{◌≡◌, ℕ, ◌<◌, ◌≤◌, false, true, length, get_or, arith, rules, tests}
 use Rattle.std.proofs.lemmas.Iterator.{YieldsList-from_slice, first_from_find}
 use Rattle.std.proofs.lemmas.Iterator.Adapters.{serves_from_places}
 use Rattle.std.proofs.lemmas.Iterator.Consumers.{YieldsList-from_copied}
 use Rattle.std.proofs.lemmas.List.{get_or_default}
-use Rattle.std.specs.Option.{option_map}
 use Rattle.admission.specs.Held.{held}
-use Rattle.controller.specs.declared.batch.Place.{Place}
 use Rattle.controller.specs.Choices.{pending_at}
 use Rattle.controller.proofs.Ordering.{first_ranked}
 use Rattle.controller.proofs.batch.OpenBatch.lowest_ranked.Goals as goal
@@ -21,20 +19,9 @@ find-requires-clause-callable c =
     let low : x < 32 = omega (arith, e, inside, few) in
     search (rules, low))
 
-pub returns : goal.returns
-returns c =
+pub returns-clause-is : goal.returns-clause-is
+returns-clause-is c =
     let table = held c.args.table.now in
     let jobs = c.args.self.now.jobs in
-    let found : Some c.in_ok-index.index ≡ c.find.result = search rules in
-    found
-    ∙ first_ranked table.rule table.tasks c.order.result.now jobs c.requires (c.order.ensures.ordered c.requires) c.order.ensures.long c.find.result
-    (first_from_find _ _ _ (λ (x : ℕ). pending_at jobs x ≡ true) (λ (x : ℕ). pending_at jobs x ≡ false) c.find.ensures.ran (YieldsList-from_copied (YieldsList-from_slice c.order.result.now cc)) (λ x q k. search (rules, tests)) (λ x q k. search (rules, tests)))
-
-pub returns-in_err-index : goal.returns-in_err-index
-returns-in_err-index c =
-    let table = held c.args.table.now in
-    let jobs = c.args.self.now.jobs in
-    let none : option_map (λ (place : Place). place.index) c.from_residual.result ≡ c.find.result = search rules in
-    none
-    ∙ first_ranked table.rule table.tasks c.order.result.now jobs c.requires (c.order.ensures.ordered c.requires) c.order.ensures.long c.find.result
+    first_ranked table.rule table.tasks c.order.result.now jobs c.requires (c.order.ensures.ordered c.requires) c.order.ensures.long c.find.result
     (first_from_find _ _ _ (λ (x : ℕ). pending_at jobs x ≡ true) (λ (x : ℕ). pending_at jobs x ≡ false) c.find.ensures.ran (YieldsList-from_copied (YieldsList-from_slice c.order.result.now cc)) (λ x q k. search (rules, tests)) (λ x q k. search (rules, tests)))
