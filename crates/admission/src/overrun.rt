@@ -33,6 +33,7 @@ impl TaskSet<'_> {
         ensures near { result ≤ at.ticks + 1000000 }
         ensures steady { (a : ℕ) → a < length self.now.tasks.now → Steady (slice_index_or self.now.tasks.now a no_adopted_task) at.ticks result }
     {
+        // A loop: the proof of a chain with `min` does not see that each task is one of the list.
         let mut until = at.ticks + MAX_PERIOD;
         for task in self.tasks {
             until = until.min(steady_until(task, at));
