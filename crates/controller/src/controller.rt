@@ -79,7 +79,11 @@ impl<S: Shelf> Controller<S> {
         ensures answer { result ≡ releasing (machine (S.Shelf.model self.old.shelf) self.old.core) place }
         ensures machine { machine (S.Shelf.model self.new.shelf) self.new.core ≡ released (machine (S.Shelf.model self.old.shelf) self.old.core) place }
     {
-        let batch = self.core.batch.as_mut().ok_or(Refusal::NoBatch)?;
+        // No `as_mut().ok_or(..)?`, here and in `tick`: batches by rank fall below the peer's speed
+        // with it.
+        let Some(batch) = &mut self.core.batch else {
+            return Err(Refusal::NoBatch);
+        };
         batch.release(&self.core.table, place as usize)
     }
 
@@ -88,7 +92,6 @@ impl<S: Shelf> Controller<S> {
         ensures answer { result ≡ ticking (machine (S.Shelf.model self.old.shelf) self.old.core) }
         ensures machine { machine (S.Shelf.model self.new.shelf) self.new.core ≡ ticked (machine (S.Shelf.model self.old.shelf) self.old.core) }
     {
-        // No `as_mut().ok_or(..)?`: ticks by rank fall below the peer's speed with it.
         let Some(batch) = &mut self.core.batch else {
             return Err(Refusal::NoBatch);
         };
