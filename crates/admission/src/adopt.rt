@@ -71,7 +71,7 @@ fn stamp(tasks: &mut [Task], adopted: &[AdoptedTask], witnesses: &[u32])
 }
 
 impl AdoptedTable {
-    // The table without tasks, which meets every inequality.
+    // The table without tasks, which meets every inequality. No Default: a rule has none.
     pub fn empty() -> AdoptedTable
         ensures { held result ≡ empty_table }
     {

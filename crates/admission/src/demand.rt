@@ -6,7 +6,7 @@ use crate::plan::{AdoptedTask, Rule};
 use crate::span::Span;
 use crate::task_set::TaskSet;
 
-// Whose jobs are counted.
+// Whose jobs are counted. No Option of a rank: None would not say that all are.
 #[derive(Clone, Copy, Debug, PartialEq, Eq)]
 pub(crate) enum Among {
     // By rank: those of the tasks ranked up to a rank.

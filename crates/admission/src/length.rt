@@ -24,7 +24,7 @@ impl Owned<'_> {
         sum
     }
 
-    // The longest attempt of a job, 0 without accesses.
+    // The longest attempt of a job, 0 without accesses, as its definition has it.
     fn longest_attempt(&self) -> u32
         ensures is { result ≡ longest self.now.segments.now }
         ensures short { result ≤ 65 }

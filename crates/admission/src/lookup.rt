@@ -42,7 +42,8 @@ impl AdoptedTable {
         &self.order
     }
 
-    // The steps of the jobs of a place; none if there is no such place.
+    // The steps of the jobs of a place; none if there is no such place, and no Option, as `plan_at` has
+    // it.
     pub fn plan(&self, place: usize) -> &[Step]
         ensures are { result.now ≡ plan_at (held self.now).plans place }
         ensures few { length result.now ≤ 8 }

@@ -3,7 +3,6 @@ ghost use Rattle.admission.specs.Tables.{adopted_tasks_of, step_of, steps_in, pl
 
 use crate::lists::{Lists, Owned};
 use crate::plan::{AdoptedTask, Plan, Rule, Step};
-use crate::rank::rank_at;
 use crate::task::MAX_TASKS;
 use arrayvec::ArrayVec;
 
@@ -31,7 +30,7 @@ impl Lists<'_> {
                 period: task.period,
                 deadline: task.deadline,
                 cost: self.owned(task).job_cost(),
-                rank: rank_at(rule, self.tasks, place),
+                rank: self.rank_at(rule, place),
             });
         }
         all

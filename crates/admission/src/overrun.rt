@@ -12,6 +12,7 @@ use crate::task_set::TaskSet;
 // A time after another up to which the demand of one task does not change. The work of its jobs
 // comes due at d, d + p, d + 2p and so on, the charge for their retries one tick later. A number,
 // no `Span`: it may lie past the longest one.
+// The limits are required, as in `share_by_rank`.
 fn steady_until(task: &AdoptedTask, at: Span) -> u32
     requires { NumberLimits task.now }
     ensures later { at.ticks < result }

@@ -9,7 +9,8 @@ pub const MAX_SEGMENTS: usize = 8;
 
 // A task as the caller describes it. Rank and witness are written when its table is taken.
 // Both records are laid out as in C, so that a slice of them can be handed in from other languages;
-// so a kind is a number, and 0 stands for no rank and no witness.
+// so a kind is a number, a part of a list is `first` and `count`, and 0 stands for no rank and no
+// witness.
 #[repr(C)]
 #[derive(Clone, Copy, Debug, PartialEq, Eq)]
 pub struct Task {

@@ -16,12 +16,14 @@ use arrayvec::ArrayVec;
 // What a table that passes its test is given.
 #[derive(Drop)]
 pub struct Passed {
-    // The greatest witness, or the hyperperiod.
+    // The greatest witness, or the hyperperiod: one number, as in the fixed format of the answers, and
+    // the rule that was asked for says which.
     pub answer: u32,
     // The least witness of each task, by its place; 0 under earliest deadline first.
     pub witnesses: ArrayVec<u32, MAX_TASKS>,
 }
 
+// 0 of none, as its definition has it.
 fn greatest(numbers: &[u32]) -> u32
     ensures { result ≡ max_below (length numbers.now) (λ k. slice_index numbers.now k) }
 {
@@ -47,13 +49,14 @@ impl TaskSet<'_> {
         if self.load(hyperperiod) > hyperperiod.ticks as u64 {
             return Err(Refusal::Overload);
         }
+        // A match: what is found is the error.
         match self.first_overrun(hyperperiod) {
             Some(at) => Err(Refusal::Unschedulable { at }),
             None => Ok(hyperperiod.ticks),
         }
     }
 
-    // The test of a rule, which is a parameter: it says what is asked of the numbers of the set.
+    // The test of a rule. It is a parameter: the set holds numbers that either rule can be asked of.
     pub(crate) fn test(&self, rule: Rule) -> Result<Passed, Refusal>
         requires { (goes_by_rank rule ≡ true → Ranked self.now.tasks.now) }
         ensures { Tested rule self.now.attempt self.now.tasks.now result }

@@ -3,7 +3,7 @@
 #![tactic(auto)]
 
 use admission::refusal::Refusal;
-use admission::task::{Segment, Task};
+use admission::task::{MAX_TASKS, Segment, Task};
 use controller::controller::Controller;
 use controller::job::Ticked;
 use shelf::cell::Cell;
@@ -65,7 +65,7 @@ pub extern "C" fn bench_ticks(
     let mut controller = new_controller();
     let _ = controller.adopt(rule, tasks, segments);
     let (_opened, token) = controller.open();
-    let places = tasks.len().min(32) as u32;
+    let places = tasks.len().min(MAX_TASKS) as u32;
     // Counters, not the remainder by the period: a division in each tick would be timed too.
     let mut due = 0;
     let mut left: u32 = 0;

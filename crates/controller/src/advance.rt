@@ -119,6 +119,7 @@ pub(crate) fn advance<S: Shelf>(
         (_, Step::Access { ticks, object, .. }, Outcome::Refused) => {
             job.state = JobState::Attempting {
                 left: ticks,
+                // As in `start_of`.
                 seen: 0,
             };
             Event::Retried { object }

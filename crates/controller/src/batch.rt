@@ -9,15 +9,16 @@ use crate::job::{Event, Job, JobState, Sums, Ticked};
 use crate::tally::Tally;
 use admission::refusal::Refusal;
 use admission::table::AdoptedTable;
+use admission::task::MAX_TASKS;
 use shelf::interface::Shelf;
 
-// An open batch.
+// An open batch. The table is handed in: it outlives the batch.
 #[derive(Debug, Drop, PartialEq, Eq)]
 pub struct OpenBatch {
     pub(crate) tally: Tally,
     // The latest job of each place. An array beside the lists of the table: the chosen record is lent
     // for writing, a rule of the project.
-    pub(crate) jobs: [Job; 32],
+    pub(crate) jobs: [Job; MAX_TASKS],
     // The place of the job that worked on the last tick, unless it finished.
     last: Option<usize>,
 }
@@ -35,7 +36,7 @@ impl OpenBatch {
                 retries: 0,
                 preemptions: 0,
             },
-            jobs: [Job::default(); 32],
+            jobs: [Job::default(); MAX_TASKS],
             last: None,
         }
     }
@@ -46,6 +47,7 @@ impl OpenBatch {
         ensures batch { batch_in self.new ≡ released_in (held table.now) place (release_no (held table.now) (batch_in self.old) place) (batch_in self.old) }
     {
         let tasks = table.tasks();
+        // No `get` with `ok_or`: speed, as in `Controller::release`.
         if place >= tasks.len() {
             return Err(Refusal::NoPlace);
         }
@@ -68,7 +70,8 @@ impl OpenBatch {
     }
 
     // One tick: the clock rises, and the most urgent pending job works. That the clock is below its
-    // end is no fact of every open batch: one that has run out can still be closed.
+    // end is no fact of every open batch: one that has run out can still be closed. So too in `idle`,
+    // `work` and `count`; that a place is below 32: see `next_place`.
     pub(crate) fn tick<S: Shelf>(&mut self, shelf: &mut S, table: &AdoptedTable) -> Ticked
         requires { self.old.tally.clock < 1000000000 }
         ensures answer { result ≡ (tick_of (S.Shelf.model shelf.old) (held table.now) (batch_in self.old)).answer }

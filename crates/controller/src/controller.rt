@@ -92,6 +92,7 @@ impl<S: Shelf> Controller<S> {
         ensures answer { result ≡ ticking (machine (S.Shelf.model self.old.shelf) self.old.core) }
         ensures machine { machine (S.Shelf.model self.new.shelf) self.new.core ≡ ticked (machine (S.Shelf.model self.old.shelf) self.old.core) }
     {
+        // No `?`: see `release`.
         let Some(batch) = &mut self.core.batch else {
             return Err(Refusal::NoBatch);
         };

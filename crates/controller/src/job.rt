@@ -28,6 +28,7 @@ impl JobState {
             Some(Step::Compute { ticks }) => JobState::Computing { left: ticks },
             Some(Step::Access { ticks, .. }) => JobState::Attempting {
                 left: ticks,
+                // 0, as its definition has it: the first tick looks before this is read.
                 seen: 0,
             },
         }

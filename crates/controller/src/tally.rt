@@ -1,6 +1,7 @@
 ghost use Rattle.std.specs.Prelude.{◌≤◌};
 
-// The clock of a batch and what is counted along with it.
+// The clock of a batch and what is counted along with it. No `Sums` in it: that is an answer, with
+// the pending jobs, and has none of the facts below.
 #[derive(Clone, Copy, Debug, PartialEq, Eq)]
 pub struct Tally {
     pub clock: u32,

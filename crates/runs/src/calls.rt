@@ -7,6 +7,7 @@ use controller::job::{Sums, Ticked};
 #[derive(Debug, Drop)]
 pub enum Call {
     Adopt {
+        // A number, as C has it: the adoption refuses what is no rule.
         rule: u32,
         tasks: Vec<Task>,
         segments: Vec<Segment>,

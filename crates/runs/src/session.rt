@@ -36,7 +36,8 @@ impl<S: Shelf> Session<S> {
         }
     }
 
-    // Opens a batch, and keeps the token, good or void.
+    // Opens a batch, and keeps the token, good or void. `room` is said by `open`, `close` and
+    // `perform`: it compares two moments, so no field can hold it.
     fn open(&mut self) -> Answer
         requires { vec_len self.old.tokens < vec_capacity self.old.tokens }
         ensures answer { result ≡ answered (machine_of S.Shelf.model self.old) (held_in self.old) opens }

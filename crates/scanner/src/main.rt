@@ -31,6 +31,7 @@ fn add_line<'a>(plan: &mut Plan, read: &'a io::Result<String>) -> Result<(), Fau
 }
 
 // Reads the script line by line, until it ends or a line is bad; then says what is wrong with that.
+// One result in the other: a bad line must not lose what came before it.
 fn read_script(rt: &HostRuntime, plan: &mut Plan) -> anyhow::Result<Result<(), String>> {
     let heap = rt.alloc();
     let lines = BufReader::new(heap, rt.stdin())?.lines(heap);

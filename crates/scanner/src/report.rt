@@ -14,7 +14,7 @@ struct Batch {
 // How far the report is.
 #[derive(Clone, Copy, Debug, Default, PartialEq, Eq)]
 struct Progress {
-    // The next call.
+    // The next call. Counted here, not by `enumerate`: the count goes on from part to part.
     next: usize,
     // How many tasks the table has.
     tasks: usize,
@@ -84,7 +84,7 @@ fn write_answers<W: Write>(out: &mut W, part: Part<'_>, start: Progress) -> io::
 }
 
 // All answers in order, and each chart where it was asked for: `charts` says how many calls come
-// before it.
+// before it. Two slices, here alone: a `Part` is made of them at once.
 pub fn write_report<W: Write>(
     out: &mut W,
     calls: &[Call],

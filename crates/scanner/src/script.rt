@@ -134,6 +134,7 @@ impl Verb {
 fn before_comment(text: &str) -> &str
     ensures { Uncommented text.now result.now }
 {
+    // A match: each arm is a case of `Uncommented`.
     match text.split_once('#') {
         Some((before, _comment)) => before,
         None => text,
@@ -214,6 +215,7 @@ pub fn parse_line(text: &str) -> Result<Option<Line>, LineError<'_>>
     };
     let verb = word.parse().map_err(|_| LineError::UnknownWord { word })?;
     let numbers = read_numbers(verb, words)?;
+    // A match: each arm is a case of `Parsed`.
     match line_of(verb, numbers.as_slice()) {
         Some(line) => Ok(Some(line)),
         None => Err(LineError::TooFewNumbers {
