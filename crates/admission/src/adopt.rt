@@ -110,13 +110,9 @@ impl AdoptedTable {
     pub fn demand(&self, place: u32, t: u32) -> Result<(u64, u64), Refusal>
         ensures { result ≡ demanded (held self.now) place t }
     {
-        let place = place as usize;
-        if place >= self.tasks.len() {
-            return Err(Refusal::NoPlace);
-        }
+        let task = self.tasks.get(place as usize).ok_or(Refusal::NoPlace)?;
         let span = Span::try_from(t)?;
-        let rank = self.tasks[place].rank;
-        let among = Among::of(self.rule, rank);
+        let among = Among::of(self.rule, task.rank);
         Ok(self.task_set().demand_within(among, span))
     }
 }
