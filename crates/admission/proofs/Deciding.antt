@@ -6,8 +6,7 @@ use Rattle.admission.specs.declared.task.Segment.{Segment}
 use Rattle.admission.specs.declared.task.Task.{Task}
 use Rattle.admission.specs.declared.lists.Lists.{Lists}
 use Rattle.admission.specs.declared.plan.Rule.{Rule}
-use Rattle.admission.specs.declared.plan.Step.{Step}
-use Rattle.arrayvec.specs.ArrayVec.{ArrayVec}
+use Rattle.admission.specs.declared.plan.Plan.{Plan}
 use Rattle.admission.specs.declared.plan.AdoptedTask.{AdoptedTask}
 use Rattle.admission.specs.declared.refusal.Refusal.{Refusal}
 use Rattle.admission.specs.declared.refusal.Refusal.TheVariants.{TaskCount, LongHyperperiod}
@@ -84,7 +83,7 @@ pub passes_as : (rule : Rule) (s s' : ℕ) (xs ys : List AdoptedTask) (p : Passe
 passes_as rule s s' xs ys p e f h = subst (λ (k : ℕ). Passes rule k ys p) e (subst (λ (zs : List AdoptedTask). Passes rule s zs p) f h)
 
 -- the table that is made of the parts is the defined one
-pub table_is : (rule : Rule) (segments : List Segment) (tasks : List Task) (s : ℕ) (xs : List AdoptedTask) (ws : List ℕ) (plans : List (ArrayVec Step))
+pub table_is : (rule : Rule) (segments : List Segment) (tasks : List Task) (s : ℕ) (xs : List AdoptedTask) (ws : List ℕ) (plans : List Plan)
     → s ≡ longest_attempt_of segments tasks
     → xs ≡ adopted_tasks_of rule segments tasks
     → ws ≡ witnesses_of rule (longest_attempt_of segments tasks) (adopted_tasks_of rule segments tasks)

@@ -1,5 +1,5 @@
 -- What a passed test gives, from what the search for witnesses and the test by deadline answer.
-use Rattle.std.proofs.Common.{◌≡◌, ℕ, ◌<◌, ◌≤◌, true, false, cond, List, length, get_or, take, replicate, Some, None, Option, unwrap_or, sym, ap, ◌∙◌, arith}
+use Rattle.std.proofs.Common.{◌≡◌, ℕ, ◌<◌, ◌≤◌, true, false, cond, List, length, get_or, take, replicate, Some, None, Option, unwrap_or, sym, refl, ap, ◌∙◌, arith}
 use Rattle.std.specs.Option.{option_map}
 use Rattle.std.proofs.lemmas.List.{get_or-take, length-take-le, get_or-replicate}
 use Rattle.std.proofs.lemmas.List.FromFn.{fill_by_all, length-map-range_with_len}
@@ -17,16 +17,18 @@ module _ (rule : Rule) (attempt : ℕ) (tasks : List AdoptedTask) (few : length 
   abbrev witness : ℕ → ℕ
   witness place = cond (goes_by_rank rule) (unwrap_or (least_witness attempt tasks place) 0) 0
 
-  -- a list that has the witness of each task
-  all_is : (ws : List ℕ) → length ws ≡ length tasks → ((place : ℕ) → place < length tasks → get_or ws place 0 ≡ witness place) → ws ≡ witnesses_of rule attempt tasks
-  all_is ws l h = fill_by_all witness ws (length tasks) 0 l h
+  -- an array that holds the witnesses in front
+  front_is : (ws : List ℕ) → length ws ≡ 32 → ((place : ℕ) → place < length tasks → get_or ws place 0 ≡ witness place) → take (length tasks) ws ≡ witnesses_of rule attempt tasks
+  front_is ws l h =
+      fill_by_all witness (take (length tasks) ws) (length tasks) 0 (length-take-le (length tasks) ws (omega arith))
+      (λ k b. get_or-take (length tasks) ws k 0 b ∙ h k b)
 
-  pub passes_by_rank : (ws : List ℕ) (answer : ℕ) → goes_by_rank rule ≡ true → length ws ≡ length tasks → lowest_unmet attempt tasks ≡ None
+  pub passes_by_rank : (ws : List ℕ) (answer : ℕ) → goes_by_rank rule ≡ true → length ws ≡ 32 → lowest_unmet attempt tasks ≡ None
       → ((place : ℕ) → place < length tasks → least_witness attempt tasks place ≡ Some (get_or ws place 0))
-      → answer ≡ max_below (length ws) (λ k. get_or ws k 0)
-      → Passes rule attempt tasks (record { answer = answer; witnesses = record { items = ws } })
+      → answer ≡ max_below (length (take (length tasks) ws)) (λ k. get_or (take (length tasks) ws) k 0)
+      → Passes rule attempt tasks (record { answer = answer; witnesses = ws })
   passes_by_rank ws answer r l u h a =
-      let e = all_is ws l (λ place b. sym (cond-true (goes_by_rank rule) (unwrap_or (least_witness attempt tasks place) 0) 0 r ∙ ap (λ (o : Option ℕ). unwrap_or o 0) (h place b))) in
+      let e = front_is ws l (λ place b. sym (cond-true (goes_by_rank rule) (unwrap_or (least_witness attempt tasks place) 0) 0 r ∙ ap (λ (o : Option ℕ). unwrap_or o 0) (h place b))) in
       record {
         test = cond-true (goes_by_rank rule) (ranks_no attempt tasks) (deadlines_no attempt tasks) r ∙ ap (option_map Unschedulable) u;
         witnesses = e;
@@ -38,13 +40,12 @@ module _ (rule : Rule) (attempt : ℕ) (tasks : List AdoptedTask) (few : length 
       }
 
   pub passes_by_deadline : (answer : ℕ) → goes_by_rank rule ≡ false → deadlines_no attempt tasks ≡ None → answer ≡ unwrap_or (hyperperiod_of tasks) 0
-      → (ws : List ℕ) → ws ≡ take (length tasks) (replicate 32 0)
-      → Passes rule attempt tasks (record { answer = answer; witnesses = record { items = ws } })
-  passes_by_deadline answer r d a ws w =
+      → Passes rule attempt tasks (record { answer = answer; witnesses = replicate 32 0 })
+  passes_by_deadline answer r d a =
       record {
         test = cond-false (goes_by_rank rule) (ranks_no attempt tasks) (deadlines_no attempt tasks) r ∙ d;
         witnesses =
-            w ∙ all_is (take (length tasks) (replicate 32 0)) (length-take-le (length tasks) (replicate 32 0) (omega arith)) (λ place b.
-            get_or-take (length tasks) (replicate 32 0) place 0 b ∙ get_or-replicate 32 place 0 0 (omega arith) ∙ sym (cond-false (goes_by_rank rule) (unwrap_or (least_witness attempt tasks place) 0) 0 r));
+            front_is (replicate 32 0) refl (λ place b.
+            get_or-replicate 32 place 0 0 (omega arith) ∙ sym (cond-false (goes_by_rank rule) (unwrap_or (least_witness attempt tasks place) 0) 0 r));
         answer = a ∙ sym (cond-false (goes_by_rank rule) (max_below (length tasks) (λ k. get_or (witnesses_of rule attempt tasks) k 0)) (unwrap_or (hyperperiod_of tasks) 0) r);
       }

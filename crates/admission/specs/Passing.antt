@@ -1,5 +1,5 @@
 -- What a test that a table passes gives.
-use Rattle.std.specs.Prelude.{◌≡◌, ℕ, cond, List, length, Some, None, Ok, Err, Result, slice_index}
+use Rattle.std.specs.Prelude.{◌≡◌, ℕ, cond, List, length, take, Some, None, Ok, Err, Result, slice_index}
 use Rattle.std.specs.Option.{unwrap_or}
 use Rattle.admission.specs.declared.plan.Rule.{Rule}
 use Rattle.admission.specs.declared.plan.AdoptedTask.{AdoptedTask}
@@ -17,7 +17,7 @@ answer_under rule tasks witnesses =
 
 pub record Passes (rule : Rule) (attempt : ℕ) (tasks : List AdoptedTask) (passed : Passed) : Type 0 where
   pub test : test_no rule attempt tasks ≡ None
-  pub witnesses : passed.witnesses.items ≡ witnesses_of rule attempt tasks
+  pub witnesses : take (length tasks) passed.witnesses ≡ witnesses_of rule attempt tasks
   pub answer : passed.answer ≡ answer_under rule tasks (witnesses_of rule attempt tasks)
 
 abbrev pub Tested : Rule → ℕ → List AdoptedTask → Result Passed Refusal → Type 0

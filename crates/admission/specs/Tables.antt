@@ -1,5 +1,5 @@
 -- A table of tasks as it is held once taken.
-use Rattle.std.specs.Prelude.{ℕ, Bool, true, false, cond, ◌&&◌, ◌||◌, List, [], map, length, get_or, ◌==◌, nat_lt, slice_index_or}
+use Rattle.std.specs.Prelude.{ℕ, Bool, true, false, cond, ◌&&◌, ◌||◌, List, [], map, length, get_or, take, ◌==◌, nat_lt, slice_index_or}
 use Rattle.std.specs.List.{range_with_len}
 use Rattle.admission.specs.declared.task.Segment.{Segment}
 use Rattle.admission.specs.declared.task.Task.{Task}
@@ -9,7 +9,7 @@ use Rattle.admission.specs.declared.plan.Word.TheVariants.{Put, Add}
 use Rattle.admission.specs.declared.plan.Step.{Step}
 use Rattle.admission.specs.declared.plan.Step.TheVariants.{Compute, Access}
 use Rattle.admission.specs.declared.plan.AdoptedTask.{AdoptedTask}
-use Rattle.arrayvec.specs.ArrayVec.{ArrayVec}
+use Rattle.admission.specs.declared.plan.Plan.{Plan}
 use Rattle.admission.specs.Search.{count_below}
 use Rattle.admission.specs.Lengths.{attempt_ticks_of, cost, owned}
 
@@ -73,8 +73,8 @@ abbrev pub plans_of_tasks : List Segment → List Task → List (List Step)
 plans_of_tasks segments tasks = map (λ (task : Task). map step_of (owned segments task)) tasks
 
 -- the steps of a plan
-abbrev pub steps_in : ArrayVec Step → List Step
-steps_in plan = plan.items
+abbrev pub steps_in : Plan → List Step
+steps_in plan = take plan.count plan.steps
 
 -- the steps of the jobs of a place
 abbrev pub plan_at : List (List Step) → ℕ → List Step

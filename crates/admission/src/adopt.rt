@@ -8,7 +8,7 @@ use crate::limit::check_lists;
 use crate::plan::{AdoptedTask, Rule};
 use crate::refusal::Refusal;
 use crate::span::Span;
-use crate::table::AdoptedTable;
+use crate::table::{AdoptedTable, front};
 use crate::task::{MAX_TASKS, Segment, Task};
 use crate::task_set::TaskSet;
 use arrayvec::ArrayVec;
@@ -43,12 +43,13 @@ fn decide<S: Shelf>(
         attempt,
     };
     let passed = set.test(rule)?;
+    let witnesses = front(passed.witnesses, adopted.len());
     let order = set.order(rule);
     let table = AdoptedTable {
         rule,
         attempt,
         tasks: adopted,
-        witnesses: passed.witnesses,
+        witnesses,
         plans: lists.plans(),
         order,
     };

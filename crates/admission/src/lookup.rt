@@ -48,11 +48,11 @@ impl AdoptedTable {
         ensures are { result.now ≡ plan_at (held self.now).plans place }
         ensures few { length result.now ≤ 8 }
     {
-        if place < self.tasks.len() {
-            &self.plans[place]
-        } else {
-            &[]
+        if place >= self.plans.len() {
+            return &[];
         }
+        let plan = &self.plans[place];
+        &plan.steps[..plan.count]
     }
 
     // A step of the jobs of a place.

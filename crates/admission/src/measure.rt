@@ -3,7 +3,7 @@ ghost use Rattle.admission.specs.Tables.{adopted_tasks_of, step_of, steps_in, pl
 
 use crate::lists::{Lists, Owned};
 use crate::plan::{AdoptedTask, Plan, Rule, Step};
-use crate::task::MAX_TASKS;
+use crate::task::{MAX_SEGMENTS, MAX_TASKS};
 use arrayvec::ArrayVec;
 
 impl Owned<'_> {
@@ -11,11 +11,14 @@ impl Owned<'_> {
     fn plan(&self) -> Plan
         ensures { steps_in result ≡ map step_of self.now.segments.now }
     {
-        let mut plan = ArrayVec::new();
-        for segment in self.segments {
-            plan.push(Step::from(*segment));
+        let mut steps = [Step::default(); MAX_SEGMENTS];
+        for (k, segment) in self.segments.iter().enumerate() {
+            steps[k] = Step::from(*segment);
         }
-        plan
+        Plan {
+            count: self.segments.len(),
+            steps,
+        }
     }
 }
 

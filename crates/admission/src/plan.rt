@@ -1,13 +1,8 @@
-ghost use Rattle.std.specs.Prelude.{◌≡◌};
-ghost use Rattle.admission.specs.declared.plan.Step.TheVariants.{Compute};
-ghost use Rattle.admission.specs.Lengths.{ticks_in, attempt_in};
-ghost use Rattle.admission.specs.Tables.{goes_by_rank, step_of};
-ghost use Rattle.admission.specs.Verdicts.{HasNumber};
+ghost use Rattle.std.specs.Prelude.{◌≡◌, ◌≤◌, []};
 
 use crate::length::attempt_ticks;
 use crate::refusal::Refusal;
 use crate::task::{MAX_SEGMENTS, Segment};
-use arrayvec::ArrayVec;
 
 // How the jobs of a table are ordered.
 #[derive(Clone, Copy, Debug, PartialEq, Eq)]
@@ -18,6 +13,8 @@ pub enum Rule {
 }
 
 impl Rule {
+    ghost use Rattle.admission.specs.Tables.{goes_by_rank};
+
     // Whether the jobs are ordered by rank. Callers switch on it: a rule is data of the table, with
     // two orders.
     pub fn is_by_rank(self) -> bool
@@ -33,6 +30,8 @@ impl Rule {
 // The rule that a number stands for.
 impl TryFrom<u32> for Rule {
     type Error = Refusal;
+
+    ghost use Rattle.admission.specs.Verdicts.{HasNumber};
 
     ghost try_from_gives = { HasNumber };
 
@@ -69,6 +68,8 @@ pub enum Step {
 }
 
 impl Step {
+    ghost use Rattle.admission.specs.Lengths.{ticks_in, attempt_in};
+
     // Its ticks, with one attempt to an access.
     pub(crate) fn ticks(self) -> u32
         ensures { result ≡ ticks_in self }
@@ -91,6 +92,8 @@ impl Step {
 
 // Written by hand, since a derive takes a variant without fields.
 impl Default for Step {
+    ghost use Rattle.admission.specs.declared.plan.Step.TheVariants.{Compute};
+
     ghost is_default = { λ step. step ≡ Compute 0 };
 
     fn default() -> Step {
@@ -101,6 +104,8 @@ impl Default for Step {
 // The step that a segment describes. Only here does the number of a kind become a step. A kind
 // above 2, which no table that is taken has, adds: no error is made that nothing could answer.
 impl From<Segment> for Step {
+    ghost use Rattle.admission.specs.Tables.{step_of};
+
     ghost from_gives = { λ segment step. step ≡ step_of segment };
 
     fn from(segment: Segment) -> Step {
@@ -131,5 +136,25 @@ pub struct AdoptedTask {
     pub rank: u32,
 }
 
-// The steps of a task's jobs.
-pub type Plan = ArrayVec<Step, MAX_SEGMENTS>;
+// The steps of a task's jobs, in the front of `steps`. An array, since a plan is copied, which a list
+// in fixed memory is not.
+#[derive(Clone, Copy, Debug)]
+pub struct Plan {
+    pub count: usize,
+    pub steps: [Step; MAX_SEGMENTS],
+    ghost few: { count ≤ 8 },
+}
+
+// By hand: the ghost field keeps it from being derived.
+impl Default for Plan {
+    ghost use Rattle.admission.specs.Tables.{steps_in};
+
+    ghost is_default = { λ plan. steps_in plan ≡ [] };
+
+    fn default() -> Plan {
+        Plan {
+            count: 0,
+            steps: [Step::default(); MAX_SEGMENTS],
+        }
+    }
+}

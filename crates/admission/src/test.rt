@@ -8,19 +8,18 @@ ghost use Rattle.admission.specs.Verdicts.{deadlines_no, unless};
 
 use crate::plan::Rule;
 use crate::refusal::Refusal;
-use crate::table::front;
 use crate::task::MAX_TASKS;
 use crate::task_set::TaskSet;
-use arrayvec::ArrayVec;
 
-// What a table that passes its test is given.
-#[derive(Drop)]
+// What a table that passes its test is given. The witnesses stand in the front of an array, since it
+// is copied, which a list in fixed memory is not.
+#[derive(Clone, Copy, Debug)]
 pub struct Passed {
     // The greatest witness, or the hyperperiod: one number, as in the fixed format of the answers, and
     // the rule that was asked for says which.
     pub answer: u32,
     // The least witness of each task, by its place; 0 under earliest deadline first.
-    pub witnesses: ArrayVec<u32, MAX_TASKS>,
+    pub witnesses: [u32; MAX_TASKS],
 }
 
 // 0 of none, as its definition has it.
@@ -37,7 +36,7 @@ impl TaskSet<'_> {
         ensures { Tested rule self.now.attempt self.now.tasks.now result }
     {
         let witnesses = self.find_witnesses()?;
-        let answer = greatest(&witnesses);
+        let answer = greatest(&witnesses[..self.tasks.len()]);
         Ok(Passed { answer, witnesses })
     }
 
@@ -67,7 +66,7 @@ impl TaskSet<'_> {
         let answer = self.test_by_deadline()?;
         Ok(Passed {
             answer,
-            witnesses: front([0; MAX_TASKS], self.tasks.len()),
+            witnesses: [0; MAX_TASKS],
         })
     }
 }

@@ -5,22 +5,19 @@ ghost use Rattle.admission.specs.Verdicts.{ranks_no};
 use crate::demand::Among;
 use crate::refusal::Refusal;
 use crate::span::Span;
-use crate::table::front;
 use crate::task::MAX_TASKS;
 use crate::task_set::TaskSet;
-use arrayvec::ArrayVec;
 
 impl TaskSet<'_> {
-    // The least witness of each task, by its place. The tasks are asked in the order of their ranks,
-    // and the first that has none is refused.
-    pub(crate) fn find_witnesses(&self) -> Result<ArrayVec<u32, MAX_TASKS>, Refusal>
+    // The least witness of each task, by its place, in the front of an array. The tasks are asked in
+    // the order of their ranks, and the first that has none is refused.
+    pub(crate) fn find_witnesses(&self) -> Result<[u32; MAX_TASKS], Refusal>
         requires { Ranked self.now.tasks.now }
         ensures unmet { MatchResult result (λ _. lowest_unmet self.now.attempt self.now.tasks.now ≡ None) (λ refusal. ranks_no self.now.attempt self.now.tasks.now ≡ Some refusal) }
-        ensures long { IfOk result (λ witnesses. length witnesses.items ≡ length self.now.tasks.now) }
-        ensures least { IfOk result (λ witnesses. (place : ℕ) → place < length self.now.tasks.now → least_witness self.now.attempt self.now.tasks.now place ≡ Some (slice_index witnesses.items place)) }
+        ensures least { IfOk result (λ witnesses. (place : ℕ) → place < length self.now.tasks.now → least_witness self.now.attempt self.now.tasks.now place ≡ Some (slice_index witnesses place)) }
     {
         let order = self.places_by_rank();
-        // An array, since the witnesses are written in the order of the ranks.
+        // No list: the witnesses are written in the order of the ranks.
         let mut witnesses = [0; MAX_TASKS];
         'tasks: {
             for &place in order.iter() {
@@ -40,7 +37,7 @@ impl TaskSet<'_> {
                     t = needed as u32;
                 };
             }
-            Ok(front(witnesses, self.tasks.len()))
+            Ok(witnesses)
         }
     }
 }

@@ -121,7 +121,7 @@ module _ (pending : ℕ → Bool) (urgency : ℕ → ℕ × ℕ) where
     (λ j l q. absurd (both_ways (pending j) (h j l) q)),
   )
 
-  best_more : (n : ℕ) (o : Option ℕ) → Best n o → pending n ≡ true → (p : Option ℕ) × Best (n + 1) p
+  pub best_more : (n : ℕ) (o : Option ℕ) → Best n o → pending n ≡ true → (p : Option ℕ) × Best (n + 1) p
   best_more n None h p = (Some n, best_first n h p)
   best_more n (Some b) h p =
       elim (cases_Bool (before n b)) [

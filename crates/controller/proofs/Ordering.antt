@@ -1,7 +1,6 @@
 -- By rank: the first pending job in the order of the places is the most urgent.
 use Rattle.std.proofs.Common.{◌≡◌, ℕ, ◌+◌, ◌<◌, ◌≤◌, Bool, true, false, cond, not, ◌&&◌, List, length, get_or, Some, None, Option, sym, ap, ◌∙◌, subst, inl, inr, arith}
 use Rattle.std.proofs.lemmas.Bool.{cases_Bool, cases_eq, cases_lt, both_ways}
-use Rattle.std.specs.List.{AllWithin, HoldsAt}
 use Rattle.std.specs.Option.{MatchOption}
 use Rattle.admission.specs.declared.plan.Rule.TheVariants.{RateMonotonic}
 use Rattle.admission.specs.declared.plan.AdoptedTask.{AdoptedTask}
@@ -14,7 +13,7 @@ use Rattle.controller.specs.Choices.{no_job, pending_at, release_of, is_more_urg
 use Rattle.controller.proofs.Choosing.{Best, Lower, lower_from, not_lower, best_chosen}
 
 -- rules that are both by rank, or both not, choose alike
-chosen_alike : (tasks : List AdoptedTask) (jobs : List Job) (a b : Rule) → goes_by_rank a ≡ goes_by_rank b → chosen a tasks jobs ≡ chosen b tasks jobs
+pub chosen_alike : (tasks : List AdoptedTask) (jobs : List Job) (a b : Rule) → goes_by_rank a ≡ goes_by_rank b → chosen a tasks jobs ≡ chosen b tasks jobs
 chosen_alike tasks jobs a b e =
     ap (λ (ranked : Bool).
     let urgency : ℕ → ℕ × ℕ = λ place.
@@ -77,17 +76,23 @@ module _ (tasks : List AdoptedTask) (order : List ℕ) (pending : ℕ → Bool) 
           | inr q ↦ q
         ]
 
+-- the first pending job that an order of places comes to
+abbrev pub FirstPending : List Job → List ℕ → Option ℕ → Type 0
+FirstPending jobs order found =
+    MatchOption found
+    ((j : ℕ) → j < length order → pending_at jobs (get_or order j 0) ≡ false)
+    (λ x. (i : ℕ) × (i < length order) × (get_or order i 0 ≡ x) × (pending_at jobs x ≡ true) × ((j : ℕ) → j < i → pending_at jobs (get_or order j 0) ≡ false))
+
 -- by rank, the first pending job that the order of the places comes to is the one that is chosen
-pub first_ranked : (rule : Rule) (tasks : List AdoptedTask) (order : List ℕ) (jobs : List Job) → goes_by_rank rule ≡ true → Ordered tasks order → length order ≡ length tasks → (r : Option ℕ) → MatchOption r (AllWithin (λ (x : ℕ). pending_at jobs x ≡ false) order 0 (length order)) (λ x. (pending_at jobs x ≡ true) × (i : ℕ) × (i < length order) × HoldsAt (λ (y : ℕ). y ≡ x) order i × AllWithin (λ (y : ℕ). pending_at jobs y ≡ false) order 0 i) → r ≡ chosen rule tasks jobs
+pub first_ranked : (rule : Rule) (tasks : List AdoptedTask) (order : List ℕ) (jobs : List Job) → goes_by_rank rule ≡ true → Ordered tasks order → length order ≡ length tasks → (r : Option ℕ) → FirstPending jobs order r → r ≡ chosen rule tasks jobs
 first_ranked rule tasks order jobs ranked O e r h =
     best_chosen (pending_at jobs) by_rank (length tasks) r (best r h) ∙ chosen_alike tasks jobs RateMonotonic rule (sym ranked)
   where
     by_rank : ℕ → ℕ × ℕ
     by_rank place = ((get_or tasks place no_adopted_task).rank, 0)
 
-    best : (r : Option ℕ) → MatchOption r (AllWithin (λ (x : ℕ). pending_at jobs x ≡ false) order 0 (length order)) (λ x. (pending_at jobs x ≡ true) × (i : ℕ) × (i < length order) × HoldsAt (λ (y : ℕ). y ≡ x) order i × AllWithin (λ (y : ℕ). pending_at jobs y ≡ false) order 0 i) → Best (pending_at jobs) by_rank (length tasks) r
-    best None h = best_none tasks order (pending_at jobs) O (length order) (λ r l. h r 0 (omega arith) l) (omega arith)
+    best : (r : Option ℕ) → FirstPending jobs order r → Best (pending_at jobs) by_rank (length tasks) r
+    best None h = best_none tasks order (pending_at jobs) O (length order) h (omega arith)
     best (Some x) h =
-        let is : get_or order h.1 0 ≡ x = h.3 0 in
-        subst (λ (z : ℕ). Best (pending_at jobs) by_rank (length tasks) (Some z)) is
-        (best_ranked tasks order (pending_at jobs) O h.1 (omega (arith, h.2)) (λ r l. h.4 r 0 (omega arith) l) (subst (λ (z : ℕ). pending_at jobs z ≡ true) (sym is) h.0))
+        subst (λ (z : ℕ). Best (pending_at jobs) by_rank (length tasks) (Some z)) h.2
+        (best_ranked tasks order (pending_at jobs) O h.0 (omega (arith, h.1)) h.4 (subst (λ (z : ℕ). pending_at jobs z ≡ true) (sym h.2) h.3))

@@ -37,6 +37,15 @@ impl OpenBatch {
         }
     }
 
+    // Whether the job of a place is pending: no job where there is no such place.
+    fn is_pending_at(&self, place: usize) -> bool
+        ensures { result ≡ pending_at self.now.jobs place }
+    {
+        self.jobs
+            .get(place)
+            .is_some_and(|job| job.state.is_pending())
+    }
+
     // By rank: the pending job of lowest rank, the first that the order of the places comes to.
     fn lowest_ranked(&self, table: &AdoptedTable) -> Option<usize>
         requires { goes_by_rank (held table.now).rule ≡ true }
@@ -47,7 +56,7 @@ impl OpenBatch {
             .order()
             .iter()
             .copied()
-            .find(|place| self.jobs[*place].state.is_pending())
+            .find(|place| self.is_pending_at(*place))
     }
 
     // Under any rule: the most urgent pending job, found by comparing all of them, and of equals the

@@ -8,7 +8,7 @@ use Rattle.runs.specs.Entries.{Entry, ticks, entry_of}
 use Rattle.scanner.specs.Plans.{Draft}
 
 -- the draft with other calls
-abbrev with_entries : Draft → List Entry → Draft
+abbrev pub with_entries : Draft → List Entry → Draft
 with_entries d calls =
     record { rule = d.rule; tasks = d.tasks; segments = d.segments; tokens = d.tokens; calls = calls; charts = d.charts }
 

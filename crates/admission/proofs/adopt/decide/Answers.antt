@@ -1,4 +1,4 @@
-use Rattle.std.proofs.Common.{◌≡◌, ℕ, true, List, length, Ok, sym, refl, ap, ◌∙◌, subst, arith}
+use Rattle.std.proofs.Common.{◌≡◌, ℕ, true, List, length, take, Ok, sym, refl, ap, ◌∙◌, subst, arith}
 use Rattle.std.proofs.lemmas.List.{length-map}
 use Rattle.std.proofs.lemmas.List.FromFn.{length-map-range_with_len}
 use Rattle.admission.specs.declared.plan.AdoptedTask.{AdoptedTask}
@@ -28,11 +28,11 @@ invariant_of-table g c =
     let rule = c.in_ok-rule.rule in
     let s = c.longest_attempt-attempt.result in
     let X = c.adopted_tasks-adopted.result.items in
-    let W = c.in_ok-passed.passed.witnesses.items in
+    let W = c.front-witnesses.result.items in
     let O = c.order-order.result.items in
     let r = ready rule c.in_ok-lists.lists X c.adopted_tasks-adopted.ensures in
     let p = passes_as rule s s _ X c.in_ok-passed.passed refl c.deref.ensures.0 c.in_ok-passed.ensures in
-    let w : W ≡ witnesses_of rule s X = p.witnesses in
+    let w : W ≡ witnesses_of rule s X = c.front-witnesses.ensures ∙ ap (λ (n : ℕ). take n c.in_ok-passed.passed.witnesses) c.len.ensures.value ∙ p.witnesses in
     let o : goes_by_rank rule ≡ true → Ordered X O = λ b. subst (λ (xs : List AdoptedTask). Ordered xs O) c.deref.ensures.0 (c.order-order.ensures.ordered b) in
     record {
       few = r.0;
@@ -66,7 +66,8 @@ returns g c =
     let plans = of_lists plans_of_tasks c.in_ok-lists.lists segments tasks _ same c.plans.ensures in
     let p = passes_as rule _ (longest_attempt_of segments tasks) _ (adopted_tasks_of rule segments tasks) c.in_ok-passed.passed s (c.deref.ensures.0 ∙ a) c.in_ok-passed.ensures in
     let long = ap (λ (xs : List AdoptedTask). length xs) a in
-    let t = table_is rule segments tasks _ _ _ _ s a p.witnesses plans in
+    let w = c.front-witnesses.ensures ∙ ap (λ (n : ℕ). take n c.in_ok-passed.passed.witnesses) c.len.ensures.value ∙ ap (λ (xs : List AdoptedTask). take (length xs) c.in_ok-passed.passed.witnesses) a ∙ p.witnesses in
+    let t = table_is rule segments tasks _ _ _ _ s a w plans in
     let some = some_tasks tasks c.is_empty.result c.is_empty.ensures c.if-is_empty.false in
     let v = verdict_taken (g.S.Shelf.model c.args.shelf.now).rules c.args.number tasks segments rule some (omega arith) c.in_ok-rule.ensures c.in_ok-lists.ensures.answer p.test in
     (v ∙ ap (λ (x : Table). Ok x) (sym t), p.answer ∙ ap answer_of (sym t), long ∙ adopted_length rule segments tasks)

@@ -13,4 +13,4 @@ returns c =
     let p = unwrap_or (hyperperiod_of tasks) 0 in
     let e = sym c.test_by_deadline.ensures ∙ c.in_ok-answer.was in
     passes_by_deadline c.args.rule c.args.self.now.attempt tasks (omega arith) c.in_ok-answer.answer
-    (sym c.if-is_by_rank.ensures) (unless_ok no p c.in_ok-answer.answer e) (unless_value no p c.in_ok-answer.answer e) c.front.result.items c.front.ensures
+    (sym c.if-is_by_rank.ensures) (unless_ok no p c.in_ok-answer.answer e) (unless_value no p c.in_ok-answer.answer e)
