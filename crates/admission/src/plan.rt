@@ -136,8 +136,8 @@ pub struct AdoptedTask {
     pub rank: u32,
 }
 
-// The steps of a task's jobs, in the front of `steps`. An array, since a plan is copied, which a list
-// in fixed memory is not.
+// The steps of a task's jobs, in the front of `steps`. An array, so that a plan is `Copy`, which a
+// list in fixed memory is not.
 #[derive(Clone, Copy, Debug)]
 pub struct Plan {
     pub count: usize,

@@ -11,8 +11,8 @@ use crate::refusal::Refusal;
 use crate::task::MAX_TASKS;
 use crate::task_set::TaskSet;
 
-// What a table that passes its test is given. The witnesses stand in the front of an array, since it
-// is copied, which a list in fixed memory is not.
+// What a table that passes its test is given. The witnesses stand in the front of an array, so that
+// it is `Copy`, which a list in fixed memory is not.
 #[derive(Clone, Copy, Debug)]
 pub struct Passed {
     // The greatest witness, or the hyperperiod: one number, as in the fixed format of the answers, and
